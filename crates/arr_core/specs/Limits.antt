@@ -13,6 +13,10 @@ max_fields = 16
 abbrev pub max_axes : ℕ
 max_axes = 6
 
+-- the greatest bound of an axis; the least one is below its negation by 1
+abbrev pub max_bound : ℕ
+max_bound = 2147483647
+
 -- the most points of a domain
 abbrev pub max_points : ℕ
 max_points = 2 ^ 24

@@ -40,6 +40,16 @@ impl RunList {
     }
 }
 
+/// Writes numbers of 32 bits in 64.
+pub fn widen(cells: &mut [i64], narrow: &[i32])
+    requires { length cells.old ≡ length narrow.now }
+    ensures { cells.new ≡ narrow.now }
+{
+    for place in 0..narrow.len() {
+        cells[place] = i64::from(narrow[place]);
+    }
+}
+
 /// How many cells of a short run are written together.
 const BLOCK: usize = 8;
 

@@ -1,12 +1,11 @@
 -- What a plan gives: its items, or the first fault.
-use Rattle.std.specs.Prelude.{ℕ, ℤ, int_le, ◌&&◌, cond, Bool, true, List, [], ◌∷◌, ◌++◌, map, length, slice_get, slice_index_or, Option, Some, None, Result, Ok, Err}
+use Rattle.std.specs.Prelude.{ℕ, ℤ, cond, Bool, true, List, [], ◌∷◌, ◌++◌, map, length, slice_get, slice_index_or, Option, Some, None, Result, Ok}
 use Rattle.arr_core.specs.declared.cell.Cell.{Cell}
 use Rattle.arr_core.specs.Domains.{points}
 use Rattle.wcps_mean.specs.declared.cell.PointFault.{PointFault}
-use Rattle.wcps_mean.specs.declared.cell.PointFault.TheVariants.{OutOfDomain}
 use Rattle.wcps_mean.specs.declared.cell.Outcome.{Outcome}
-use Rattle.wcps_mean.specs.declared.cell.Outcome.TheVariants.{Value, Fault}
 use Rattle.wcps_mean.specs.declared.item.Item.{Item}
+use Rattle.wcps_mean.specs.Cells.{coordinate_in}
 use Rattle.arr_core.specs.Cells.{truth_of}
 use Rattle.wcps_mean.specs.Answer.{then_of, given, joined, cell_of, line_of, field_count}
 use Rattle.plan_ir.specs.Bodies.{Tree, fold}
@@ -26,15 +25,10 @@ registers_after s regs (p ∷ passes) = registers_after s (regs ++ pass_outcome 
 abbrev pub registers : (ℕ → ℕ → List ℤ → ℤ) → List PassTree → List Outcome
 registers s passes = registers_after s [] passes
 
--- a coordinate that lies from lo to hi, or its fault
-abbrev pub coordinate : Outcome → ℤ → ℤ → Result ℤ PointFault
-coordinate (Fault f) lo hi = Err f
-coordinate (Value z) lo hi = cond (int_le lo z && int_le z hi) (Ok z) (Err OutOfDomain)
-
 -- the variables after the binds, or the first fault
 abbrev pub bound : (ℕ → ℕ → List ℤ → ℤ) → List Outcome → List BindTree → List ℤ → Result (List ℤ) PointFault
 bound s regs [] vars = Ok vars
-bound s regs (b ∷ binds) vars = then_of (coordinate (run s regs b.position vars) b.lo b.hi) (λ z. bound s regs binds (vars ++ z ∷ []))
+bound s regs (b ∷ binds) vars = then_of (coordinate_in (run s regs b.position vars) b.lo b.hi) (λ z. bound s regs binds (vars ++ z ∷ []))
 
 -- the cell of a field
 abbrev pub field_cell : (ℕ → ℕ → List ℤ → ℤ) → List Outcome → List ℤ → FieldBody → Result (List Cell) PointFault

@@ -7,15 +7,14 @@ ghost use Rattle.wcps_mean.specs.Reading.{Leaves, Returns};
 ghost use Rattle.wcps_mean.specs.Reports.{Reports};
 ghost use Rattle.plan_ir.specs.Bodies.{body_view, fold_view};
 ghost use Rattle.plan_ir.specs.Run.{number_at, numbers_at};
-ghost use Rattle.plan_ir.specs.Planned.{coordinate};
 ghost use Rattle.plan_ir.specs.Frames.{TakesIn, demanded_in, run_in};
 
-use crate::body::{Body, Fold, Index, Interval};
+use crate::body::{Body, Fold, Index};
 use arr_core::rank_of;
 use std::alloc::{AllocError, Global};
 use wcps_mean::{
-    CellError, Cells, Outcome, PointFault, Running, coordinate_at, item_at, operate, operate_both,
-    place_at, push_point,
+    CellError, Cells, Outcome, Running, coordinate_at, coordinate_in, item_at, operate,
+    operate_both, place_at,
 };
 
 /// What bodies of one combination stand over: its coverages, by their places in the plan, and the outcomes of its passes.
@@ -78,7 +77,7 @@ pub(crate) fn eval<C: Cells>(
             body,
         } => {
             let x = eval(alloc, cells, frame, position, vars)?;
-            match coordinate(x, *interval) {
+            match coordinate_in(x, interval.lo, interval.hi) {
                 Err(f) => Ok(Outcome::Fault(f)),
                 Ok(z) => {
                     let o = at_coordinate(alloc, cells, frame, body, vars, z)?;
@@ -132,7 +131,7 @@ pub(crate) fn fold<C: Cells>(
     let mut running = Running::new(f.op);
     let depth = vars.len();
     for place in 0..f.domain.points() {
-        push_point(vars, &f.domain, place)?;
+        f.domain.push_point(vars, place)?;
         feed(alloc, cells, frame, f, vars, &mut running)?;
         vars.truncate(depth);
     }
@@ -214,21 +213,5 @@ pub fn register(registers: &[Outcome], k: usize) -> Outcome
     match registers.get(k) {
         Some(o) => *o,
         None => Outcome::Value(0),
-    }
-}
-
-/// A position that lies in its interval, or its fault.
-pub(crate) fn coordinate(x: Outcome, interval: Interval) -> Result<i32, PointFault>
-    ensures { result ≡ coordinate x interval.lo interval.hi }
-{
-    match x {
-        Outcome::Fault(f) => Err(f),
-        Outcome::Value(z) => {
-            if interval.lo as i64 <= z && z <= interval.hi as i64 {
-                Ok(z as i32)
-            } else {
-                Err(PointFault::OutOfDomain)
-            }
-        }
     }
 }

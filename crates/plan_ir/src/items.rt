@@ -13,13 +13,13 @@ ghost use Rattle.plan_ir.specs.Planned.{pass_outcome, registers, registers_after
 ghost use Rattle.plan_ir.specs.Frames.{Binds, HasRun, bound_in, cells_in, chosen_in, fields_in, item_in, items_of, items_over};
 
 use crate::body::{Body, Fold};
-use crate::eval::{Frame, coordinate, eval, fold, push};
+use crate::eval::{Frame, eval, fold, push};
 use crate::plan::{Bind, Combination, Field, Item as PlannedItem, Plan, Steps};
 use arr_core::Cell;
 use std::alloc::{AllocError, Global};
 use wcps_mean::{
-    CellError, CellList, Cells, EvalError, Item, Outcome, cell_of, field_count, is_set, push_point,
-    run_length,
+    CellError, CellList, Cells, EvalError, Item, Outcome, cell_of, coordinate_in, field_count,
+    is_set, run_length,
 };
 
 /// The items of a plan: combinations in order, for each its condition, and where that is true the cells of its item,
@@ -166,7 +166,7 @@ fn item_of<C: Cells>(
     let mut list = Vec::new(alloc);
     let mut vars = Vec::new(alloc);
     for place in 0..item.domain.points() {
-        push_point(&mut vars, &item.domain, place)?;
+        item.domain.push_point(&mut vars, place)?;
         push_cells(alloc, cells, frame, item, &mut vars, &mut list)?;
         vars.truncate(0);
     }
@@ -211,7 +211,7 @@ fn push_bound<C: Cells>(
         [] => Ok(()),
         [bind, rest @ ..] => {
             let o = eval(alloc, cells, frame, &bind.position, vars)?;
-            match coordinate(o, bind.interval) {
+            match coordinate_in(o, bind.interval.lo, bind.interval.hi) {
                 Err(f) => Err(EvalError::Fault(f)),
                 Ok(z) => {
                     push(vars, z)?;

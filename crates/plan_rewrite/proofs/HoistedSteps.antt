@@ -16,7 +16,8 @@ use Rattle.plan_ir.specs.declared.body.Interval.{Interval}
 use Rattle.plan_ir.specs.Bodies.{Tree}
 use Rattle.plan_ir.specs.Run.{run}
 use Rattle.plan_ir.specs.Plans.{PassTree, BindTree, FieldBody, StepsTree}
-use Rattle.plan_ir.specs.Planned.{pass_outcome, registers_after, registers, coordinate, bound, field_cell, cells_at, item_cells, item_planned, chosen, steps_planned}
+use Rattle.wcps_mean.specs.Cells.{coordinate_in}
+use Rattle.plan_ir.specs.Planned.{pass_outcome, registers_after, registers, bound, field_cell, cells_at, item_cells, item_planned, chosen, steps_planned}
 use Rattle.plan_ir.specs.Placed.{span, spans, IsPlaced, PassesArePlaced, ConditionIsPlaced, FieldsArePlaced, ItemIsPlaced, AreDemanded, AreSteps}
 use Rattle.plan_rewrite.specs.Hoisting.{hoisting}
 use Rattle.plan_rewrite.specs.HoistedPlans.{Places, with_pass, with_passes, HoistedCondition, hoisted_condition, HoistedFields, hoisted_fields, HoistedItem, hoisted_item, hoisted_steps}
@@ -86,8 +87,8 @@ item-hoists (b ∷ binds) fields s cs regs old passes scope k h p =
       passes_placed = c.passes_placed;
       placed = (subst (λ q. IsPlaced cs (length q) scope hb.body) (sym c.extends) (placed-later cs hb.passes c.more scope hb.body a.placed), c.placed);
       means = λ vars e.
-          then-same (coordinate (run s (registers s rest.passes) hb.body vars) b.lo b.hi) (coordinate (run s old b.position vars) b.lo b.hi) _ _ _ _
-          (ap (λ o. coordinate o b.lo b.hi) (ap (λ q. run s (registers s q) hb.body vars) c.extends ∙ run-later s cs hb.passes c.more scope hb.body vars a.placed ∙ a.means vars e))
+          then-same (coordinate_in (run s (registers s rest.passes) hb.body vars) b.lo b.hi) (coordinate_in (run s old b.position vars) b.lo b.hi) _ _ _ _
+          (ap (λ o. coordinate_in o b.lo b.hi) (ap (λ q. run s (registers s q) hb.body vars) c.extends ∙ run-later s cs hb.passes c.more scope hb.body vars a.placed ∙ a.means vars e))
           (λ z. c.means (vars ++ z ∷ []) (omega (arith, e, length-append vars (z ∷ []), length-append scope one)));
     }
 

@@ -18,7 +18,8 @@ use Rattle.plan_ir.specs.declared.body.Interval.{Interval}
 use Rattle.plan_ir.specs.Bodies.{Tree, fold}
 use Rattle.plan_ir.specs.Run.{number_at, numbers_at, run}
 use Rattle.plan_ir.specs.Plans.{PassTree, BindTree, FieldBody, ItemTree, StepsTree, Choice, PlanTree}
-use Rattle.plan_ir.specs.Planned.{pass_outcome, registers_after, registers, coordinate, bound, field_cell, cells_at, item_cells, item_planned, chosen, given_out, steps_planned, cells_of, choice_planned, planned}
+use Rattle.wcps_mean.specs.Cells.{coordinate_in}
+use Rattle.plan_ir.specs.Planned.{pass_outcome, registers_after, registers, bound, field_cell, cells_at, item_cells, item_planned, chosen, given_out, steps_planned, cells_of, choice_planned, planned}
 use Rattle.plan_ir.specs.Placed.{spans, Indexes}
 use Rattle.plan_ir.proofs.Parts.{slice_get-map}
 use Rattle.plan_rewrite.specs.Inlining.{levels, inlining}
@@ -68,7 +69,7 @@ tested true false x z h = absurd (cc)
 tested false c x z h = absurd (cc)
 
 -- a coordinate that passed its test lies inside
-coordinate-inside : (o : Outcome) (lo hi z : ℤ) → coordinate o lo hi ≡ Ok z → (lo ≤ℤ z) × (z ≤ℤ hi)
+coordinate-inside : (o : Outcome) (lo hi z : ℤ) → coordinate_in o lo hi ≡ Ok z → (lo ≤ℤ z) × (z ≤ℤ hi)
 coordinate-inside (Fault f) lo hi z h = absurd (cc)
 coordinate-inside (Value x) lo hi z h =
     let t = tested (int_le lo x) (int_le x hi) x z h in
@@ -79,8 +80,8 @@ passes true true x l u = refl
 passes true false x l u = absurd u
 passes false c x l u = absurd l
 
-coordinate-of : (o : Outcome) (lo hi z : ℤ) → o ≡ Value z → lo ≤ℤ z → z ≤ℤ hi → coordinate o lo hi ≡ Ok z
-coordinate-of o lo hi z e l u = ap (λ x. coordinate x lo hi) e ∙ passes (int_le lo z) (int_le z hi) z l.le u.le
+coordinate-of : (o : Outcome) (lo hi z : ℤ) → o ≡ Value z → lo ≤ℤ z → z ≤ℤ hi → coordinate_in o lo hi ≡ Ok z
+coordinate-of o lo hi z e l u = ap (λ x. coordinate_in x lo hi) e ∙ passes (int_le lo z) (int_le z hi) z l.le u.le
 
 follows-one : (r : Result ℤ PointFault) (s : ℕ → ℕ → List ℤ → ℤ) (regs : List Outcome) (new binds : List BindTree) (vars : List ℤ) (g : Variables) (numbers : List ℤ) → ((z : ℤ) → r ≡ Ok z → Follows (bound s regs new (vars ++ z ∷ [])) (bound s regs binds (numbers ++ z ∷ [])) g) → Follows (then_of r (λ z. bound s regs new (vars ++ z ∷ []))) (then_of r (λ z. bound s regs binds (numbers ++ z ∷ []))) g
 follows-one (Err f) s regs new binds vars g numbers h = refl
@@ -99,9 +100,9 @@ bind-follows b binds s regs old scope env vars None is h l go =
     let v : Interval = record { lo = b.lo; hi = b.hi } in
     let new = kept_binds (env ++ Var (length scope) ∷ []) (scope ++ v ∷ []) binds in
     let g = variables_after (env ++ Var (length scope) ∷ []) (scope ++ v ∷ []) binds in
-    let old_r = coordinate (run s regs b.position (numbers_at vars env)) b.lo b.hi in
+    let old_r = coordinate_in (run s regs b.position (numbers_at vars env)) b.lo b.hi in
     subst (λ r. Follows (then_of r (λ z. bound s regs new (vars ++ z ∷ []))) (then_of old_r (λ z. bound s regs binds (numbers_at vars env ++ z ∷ []))) g)
-    (ap (λ o. coordinate o b.lo b.hi) (sym (inlined-means b.position s regs old scope env vars h l)))
+    (ap (λ o. coordinate_in o b.lo b.hi) (sym (inlined-means b.position s regs old scope env vars h l)))
     (follows-one old_r s regs new binds vars g (numbers_at vars env) (λ z e.
     let inside = coordinate-inside (run s regs b.position (numbers_at vars env)) b.lo b.hi z e in
     subst (λ n. Follows (bound s regs new (vars ++ z ∷ [])) (bound s regs binds n) g) (one-more old scope env vars v z h l inside.0 inside.1)

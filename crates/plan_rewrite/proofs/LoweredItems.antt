@@ -18,7 +18,8 @@ use Rattle.wcps_mean.specs.Meaning.{val}
 use Rattle.wcps_mean.specs.Answer.{then_of, given, joined, cell_of, line_of, field_count, cells_at as answer_cells, item_answer}
 use Rattle.plan_ir.specs.Run.{run}
 use Rattle.plan_ir.specs.Placed.{span, spans}
-use Rattle.plan_ir.specs.Planned.{coordinate, bound, field_cell, cells_at, item_planned}
+use Rattle.wcps_mean.specs.Cells.{coordinate_in}
+use Rattle.plan_ir.specs.Planned.{bound, field_cell, cells_at, item_planned}
 use Rattle.plan_rewrite.specs.Lowering.{Setting, outermost, at_scalar, at_slice, lowered}
 use Rattle.plan_rewrite.specs.LoweredItems.{Chain, end, bracketed, sliced, chain_of, chain_tree, chain_binds, chain_fields, lowered_field, item_binds, lowered_item}
 use Rattle.plan_rewrite.proofs.Scopes.{Lie, lie-length, points-lie}
@@ -83,7 +84,7 @@ tested-cells false z go booleans inner f fs h = refl
 
 position-cells : (s : ℕ → ℕ → List ℤ → ℤ) (regs : List Outcome) (c : Setting) (axis : ℕ) (lo hi : ℤ) (vars : List ℤ) (o : Outcome) (go : ℤ → Result (List Cell) PointFault) (f : FieldTree) (fs : List FieldTree)
     → ((z : ℤ) → go z ≡ joined (map (λ (f : FieldTree). given (λ z. cell_of f.boolean z ∷ []) (run s regs (lowered (at_slice c axis lo hi) f.tree) (vars ++ z ∷ []))) (f ∷ fs)))
-    → then_of (coordinate o lo hi) go ≡ joined (map (cell_from s regs c axis lo hi vars o) (f ∷ fs))
+    → then_of (coordinate_in o lo hi) go ≡ joined (map (cell_from s regs c axis lo hi vars o) (f ∷ fs))
 position-cells s regs c axis lo hi vars (Fault e) go f fs h = refl
 position-cells s regs c axis lo hi vars (Value z) go f fs h =
     tested-cells (int_le lo z && int_le z hi) z go (λ f. f.boolean) (λ (f : FieldTree). run s regs (lowered (at_slice c axis lo hi) f.tree) (vars ++ z ∷ [])) f fs (h z)
@@ -99,7 +100,7 @@ chain-cells (bracketed h) s regs c vars b bs = chain-cells h s regs c vars b bs 
 chain-cells (sliced axis lo hi i h) s regs c vars b bs =
     let inner = at_slice c axis lo hi in
     let views = chain_views h 0 (b ∷ bs) in
-    then-then (coordinate (run s regs (lowered (at_scalar c) i) vars) lo hi) (λ z. bound s regs (chain_binds inner h) (vars ++ z ∷ [])) (λ v. joined (map (field_cell s regs v) (chain_fields inner h (b ∷ bs))))
+    then-then (coordinate_in (run s regs (lowered (at_scalar c) i) vars) lo hi) (λ z. bound s regs (chain_binds inner h) (vars ++ z ∷ [])) (λ v. joined (map (field_cell s regs v) (chain_fields inner h (b ∷ bs))))
     ∙ position-cells s regs c axis lo hi vars (run s regs (lowered (at_scalar c) i) vars) _ (record { boolean = b; tree = chain_tree h 0 }) (chain_views h 1 bs) (λ z.
     chain-cells h s regs inner (vars ++ z ∷ []) b bs ∙ ap joined (map-map (field_cell s regs (vars ++ z ∷ [])) (lowered_field inner) views))
     ∙ ap joined (slice-fields s regs c axis lo hi i vars h 0 (b ∷ bs))

@@ -3,7 +3,7 @@
 ghost use Rattle.std.specs.Prelude.{◌≡◌, ◌≤◌, ◌++◌, length, take, IsTrue, IfOk, OnOk};
 ghost use Rattle.arr_core.specs.Runs.{cells_of};
 
-use arr_core::RunList;
+use arr_core::{RunList, widen};
 use std::alloc::{AllocError, Global};
 use std::mem;
 
@@ -48,16 +48,6 @@ pub(crate) fn copy_of(alloc: Global, runs: &RunList) -> Result<RunList, AllocErr
     let mut counts = Vec::with_capacity(alloc, runs.counts.len())?;
     counts.extend_from_slice(&runs.counts)?;
     Ok(RunList::of(alloc, values, counts))
-}
-
-/// Writes numbers of 32 bits in 64.
-fn widen(cells: &mut [i64], narrow: &[i32])
-    requires { length cells.old ≡ length narrow.now }
-    ensures { cells.new ≡ narrow.now }
-{
-    for place in 0..narrow.len() {
-        cells[place] = i64::from(narrow[place]);
-    }
 }
 
 /// Adds numbers of 32 bits behind cells.

@@ -1,12 +1,11 @@
 -- Tiles over whose boxes indexes turn, axis by axis.
-use Rattle.std.proofs.Common.{◌≡◌, ℕ, ◌+◌, ◌-◌, ◌*◌, ◌/◌, ◌%◌, ◌<◌, ◌≤◌, List, [], ◌∷◌, length, min, sym, ap, ◌∙◌, subst, arith, ℤ, pos, ◌+ℤ◌, ◌≤ℤ◌}
-use Rattle.std.proofs.lemmas.Int.{ints}
+use Rattle.std.proofs.Common.{◌≡◌, ℕ, ◌+◌, ◌*◌, ◌/◌, ◌%◌, ◌<◌, List, [], ◌∷◌, length, sym, ap, ◌∙◌, subst, arith, pos, ◌+ℤ◌}
 use Rattle.std.proofs.lemmas.Nat.{div-mul-add, mod-mul-add}
 use Rattle.arr_core.specs.declared.domain.Axis.{Axis}
 use Rattle.arr_core.specs.Domains.{gap, size_of, points, count}
 use Rattle.arr_core.specs.Tiles.{edge_of, grid, part_of}
-use Rattle.arr_core.proofs.Points.{lo-add-gap, place_below}
-use Rattle.arr_core.proofs.Grids.{size-cell, part-hi, div-mono, get_or-tile_boxes, length-tile_boxes}
+use Rattle.arr_core.proofs.Points.{place_below}
+use Rattle.arr_core.proofs.Grids.{size-cell, get_or-tile_boxes, length-tile_boxes}
 use Rattle.plan_ir.specs.declared.body.Index.{Index}
 use Rattle.plan_ir.specs.Run.{numbers_at}
 use Rattle.tile_columns.specs.declared.frame.Variable.{Variable}
@@ -15,27 +14,6 @@ use Rattle.tile_columns.specs.declared.covering.Covered.{Covered}
 use Rattle.tile_columns.specs.Frames.{environment, environments, turn, turns}
 use Rattle.tile_columns.specs.Covering.{TurnsAlong, box_of_tile, TurnsOver, GoesOver}
 use Rattle.tile_columns.proofs.Turns.{over_points}
-
--- what tiles have of an axis at a place, by its first and its last coordinate
-pub record Part (edge : ℕ) (a : Axis) (lo hi : ℤ) (place size : ℕ) : Type 0 where
-  pub within : place ≤ gap a.lo a.hi / edge
-  pub size_is : size ≡ size_of (part_of edge a (pos place))
-  pub first : lo ≡ (part_of edge a (pos place)).lo
-  pub last : hi ≡ (part_of edge a (pos place)).hi
-
-pub part_is : (edge : ℕ) (a : Axis) (lo hi : ℤ) (place to size : ℕ) → 0 < edge → a.lo ≤ℤ lo → lo ≤ℤ hi → hi ≤ℤ a.hi → place ≡ gap a.lo lo / edge → gap a.lo lo ≡ place * edge → to ≡ min (gap a.lo a.hi) (place * edge + (edge - 1)) → gap a.lo hi ≡ to → size ≡ to - place * edge + 1
-    → Part edge a lo hi place size
-part_is edge a lo hi place to size some low order high q exact end there s =
-    let ordered : a.lo ≤ℤ a.hi = omega (arith, ints) in
-    let first : lo ≡ (part_of edge a (pos place)).lo = sym (lo-add-gap a.lo lo low) ∙ ap (λ n. a.lo +ℤ pos n) exact in
-    let last : hi ≡ (part_of edge a (pos place)).hi = sym (lo-add-gap a.lo hi (omega (arith, ints))) ∙ ap (λ n. a.lo +ℤ pos n) (there ∙ end) ∙ part-hi edge a place ordered in
-    let wide : gap lo hi + 1 ≡ size = omega (arith, ints) in
-    record {
-      within = subst (λ n. n ≤ gap a.lo a.hi / edge) (sym q) (div-mono (gap a.lo lo) (gap a.lo a.hi) edge some (omega (arith, ints)));
-      size_is = sym wide ∙ ap (λ x. gap x hi + 1) first ∙ ap (λ x. gap (part_of edge a (pos place)).lo x + 1) last;
-      first = first;
-      last = last;
-    }
 
 -- the box of a tile of one more axis
 pub in_front : (edge : ℕ) (a : Axis) (rest : List Axis) (place n : ℕ) → n < count (grid edge rest) → box_of_tile edge (a ∷ rest) (place * count (grid edge rest) + n) ≡ part_of edge a (pos place) ∷ box_of_tile edge rest n

@@ -14,7 +14,7 @@ use Rattle.arr_core.specs.Meeting.{tile_at, tile_number}
 use Rattle.arr_core.proofs.Points.{lo-add-gap, count-pos, length-points, rank_of-lt-count, at_rank, point-rank}
 use Rattle.arr_core.proofs.Grids.{cell_of, size-cell, count-grid, tile_at-inside, at-box, get_or-tile_boxes, length-tile_boxes, edge-some, part-hi}
 use Rattle.arr_core.proofs.Boxes.{tile-small}
-use Rattle.wcps_mean.proofs.Ranks.{cut}
+use Rattle.arr_core.proofs.FirstAxis.{cut}
 use Rattle.plan_ir.specs.declared.body.Index.{Index}
 use Rattle.plan_ir.specs.Run.{number_at, numbers_at}
 use Rattle.tile_columns.specs.Sources.{IsRead, HasTile, box_of}

@@ -8,8 +8,8 @@ use Rattle.wcps_mean.specs.declared.cell.Outcome.TheVariants.{Value, Fault}
 use Rattle.wcps_mean.specs.Cells.{operate2, fits_64, truth}
 use Rattle.plan_ir.specs.Bodies.{Tree, op2}
 use Rattle.plan_ir.specs.Run.{run}
-use Rattle.tile_columns.specs.declared.windows.Pattern.{Pattern}
-use Rattle.tile_columns.specs.declared.windows.Edges.{Edges}
+use Rattle.tile_columns.specs.declared.pattern.Pattern.{Pattern}
+use Rattle.tile_columns.specs.declared.pattern.Edges.{Edges}
 use Rattle.tile_columns.specs.Windows.{Means, low_edge, high_edge, asked, some_edges, either_edges}
 
 -- what an edge gives: its sum overflows, or it is met or not

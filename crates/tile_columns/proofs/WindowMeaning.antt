@@ -25,7 +25,7 @@ use Rattle.plan_ir.specs.Units.{bound_times}
 use Rattle.tile_columns.specs.declared.ground.Ground.{Ground}
 use Rattle.tile_columns.specs.declared.reach.Extents.{Extents}
 use Rattle.tile_columns.specs.declared.reach.Reach.{Reach}
-use Rattle.tile_columns.specs.declared.windows.Pattern.{Pattern}
+use Rattle.tile_columns.specs.declared.pattern.Pattern.{Pattern}
 use Rattle.tile_columns.specs.declared.windows.Window.{Window}
 use Rattle.tile_columns.specs.Reaching.{lies, between, cross, extent, IsReach, HasExtents}
 use Rattle.tile_columns.specs.Sources.{SourceState}

@@ -33,7 +33,7 @@ use Rattle.tile_columns.specs.declared.shapes.Shape.{Shape}
 use Rattle.tile_columns.specs.declared.shapes.Shape.TheVariants.{Alone, First, Second}
 use Rattle.tile_columns.specs.declared.zones.Role.{Role}
 use Rattle.tile_columns.specs.declared.zones.Role.TheVariants.{Condition, Within}
-use Rattle.tile_columns.specs.declared.zones.Seen.{Seen}
+use Rattle.tile_columns.specs.declared.zone_folds.Seen.{Seen}
 use Rattle.tile_columns.specs.Shapes.{operand, shaped, joined, joined_all}
 use Rattle.tile_columns.specs.Blanks.{AddsZeros, CountsZeros}
 use Rattle.tile_columns.specs.Zones.{compared, equality, equation_in, other_in, condition_in, body_in, condition_of, value_of, told_all, IsZoned, IsZonal, IsWhole, HasBlanks, AreKeyed, AreCounted, AreShared, TakesInAt}

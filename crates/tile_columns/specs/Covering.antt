@@ -1,5 +1,5 @@
 -- Tiles over whose boxes indexes go.
-use Rattle.std.specs.Prelude.{◌≡◌, ℕ, ◌<◌, ◌≤◌, ◌/◌, ℤ, pos, List, [], length, map}
+use Rattle.std.specs.Prelude.{◌≡◌, ℕ, ◌<◌, ◌≤◌, ◌/◌, ℤ, pos, List, length, map}
 use Rattle.arr_core.specs.declared.domain.Axis.{Axis}
 use Rattle.arr_core.specs.Domains.{gap, size_of, points, count, point_at}
 use Rattle.arr_core.specs.Tiles.{grid, part_of, box_at, tile_boxes, tile_box}

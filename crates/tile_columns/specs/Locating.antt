@@ -1,10 +1,10 @@
 -- Where the points of indexes stand at the places of a frame: the numbers of their tiles, and their ranks in these.
-use Rattle.std.specs.Prelude.{◌≡◌, ℕ, ◌+◌, ◌-◌, ◌*◌, ◌/◌, ◌<◌, ◌≤◌, ◌≤ℤ◌, min, ℤ, pos, List, [], ◌∷◌, length, slice_index_or}
+use Rattle.std.specs.Prelude.{◌≡◌, ℕ, ◌+◌, ◌-◌, ◌*◌, ◌/◌, ◌<◌, ◌≤◌, ◌≤ℤ◌, ℤ, pos, List, [], ◌∷◌, length, slice_index_or}
 use Rattle.std.specs.List.{All}
 use Rattle.arr_core.specs.declared.domain.Axis.{Axis}
 use Rattle.arr_core.specs.Domains.{gap, rank_of, IsInside}
 use Rattle.arr_core.specs.Limits.{max_points}
-use Rattle.arr_core.specs.Tiles.{edge_of, box_at}
+use Rattle.arr_core.specs.Tiles.{edge_of, first_step, last_step, box_at}
 use Rattle.arr_core.specs.Meeting.{tile_at}
 use Rattle.plan_ir.specs.declared.body.Index.{Index}
 use Rattle.plan_ir.specs.Run.{numbers_at}
@@ -25,7 +25,7 @@ abbrev pub tile_on : ℕ → ℕ → ℕ → ℕ → ℕ
 tile_on edge last t above = t * (last / edge + 1) + above / edge
 
 abbrev pub rank_on : ℕ → ℕ → ℕ → ℕ → ℕ
-rank_on edge last r above = r * ((min last (above / edge * edge + (edge - 1)) - above / edge * edge) + 1) + (above - above / edge * edge)
+rank_on edge last r above = r * (last_step last edge (above / edge) - first_step edge (above / edge) + 1) + (above - first_step edge (above / edge))
 
 -- with the axes one after the other
 abbrev pub tile_from : ℕ → List Axis → ℕ → List ℤ → ℕ

@@ -1,5 +1,5 @@
 -- What is read at the places of a frame.
-use Rattle.std.specs.Prelude.{◌≡◌, ℕ, ◌<◌, ℤ, List, [], map, length, slice_get}
+use Rattle.std.specs.Prelude.{◌≡◌, ℕ, ◌<◌, ℤ, List, map, length, slice_get}
 use Rattle.arr_core.specs.Domains.{points}
 use Rattle.arr_core.specs.Tiles.{tile_boxes, tile_box}
 use Rattle.arr_core.specs.Meeting.{tile_number}

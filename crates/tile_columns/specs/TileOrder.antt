@@ -1,5 +1,5 @@
 -- The points of a box tile by tile.
-use Rattle.std.specs.Prelude.{◌≡◌, ℕ, ◌≤◌, ℤ, List, [], map, take}
+use Rattle.std.specs.Prelude.{◌≡◌, ℕ, ◌≤◌, ℤ, List, map, take}
 use Rattle.std.specs.List.{flat_map}
 use Rattle.arr_core.specs.Limits.{max_tile}
 use Rattle.arr_core.specs.declared.domain.Axis.{Axis}

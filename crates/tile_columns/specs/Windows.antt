@@ -17,10 +17,10 @@ use Rattle.plan_ir.specs.Placed.{LiesWithin}
 use Rattle.plan_ir.specs.Run.{run, numbers_at}
 use Rattle.tile_columns.specs.declared.ground.Ground.{Ground}
 use Rattle.tile_columns.specs.declared.reach.Extents.{Extents}
-use Rattle.tile_columns.specs.declared.windows.Sight.{Sight}
-use Rattle.tile_columns.specs.declared.windows.Pattern.{Pattern}
+use Rattle.tile_columns.specs.declared.pattern.Sight.{Sight}
+use Rattle.tile_columns.specs.declared.pattern.Pattern.{Pattern}
 use Rattle.tile_columns.specs.declared.windows.Window.{Window}
-use Rattle.tile_columns.specs.declared.windows.Edges.{Edges}
+use Rattle.tile_columns.specs.declared.pattern.Edges.{Edges}
 use Rattle.tile_columns.specs.Reaching.{between, cross, extent, reached_by, IsReach, HasExtents}
 use Rattle.tile_columns.specs.declared.gather.Reading.{Reading}
 use Rattle.tile_columns.specs.Sources.{SourceState}

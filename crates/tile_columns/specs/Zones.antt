@@ -19,8 +19,8 @@ use Rattle.tile_columns.specs.Blanks.{skips_zeros, AddsZeros}
 use Rattle.tile_columns.specs.declared.zones.Role.{Role}
 use Rattle.tile_columns.specs.declared.zones.Role.TheVariants.{Condition, Within}
 use Rattle.tile_columns.specs.declared.zones.Zones.{Zones}
-use Rattle.tile_columns.specs.declared.zones.Seen.{Seen}
-use Rattle.tile_columns.specs.declared.zones.Pooled.{Pooled}
+use Rattle.tile_columns.specs.declared.zone_folds.Seen.{Seen}
+use Rattle.tile_columns.specs.declared.zone_folds.Pooled.{Pooled}
 use Rattle.tile_kernel.specs.Standing.{Stands, TakesIn, AreOf, HaveAtMost, EachStands}
 
 -- an outcome that is compared with a key: the key is the left operand, or the right one

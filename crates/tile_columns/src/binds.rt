@@ -1,6 +1,6 @@
 //! The positions of a bind at all places of a column.
 
-ghost use Rattle.std.specs.Prelude.{◌≡◌, ◌≤◌, int_le, ◌&&◌, length, map, IsTrue, OnOk, IfOk};
+ghost use Rattle.std.specs.Prelude.{◌≡◌, ◌≤◌, length, map, IsTrue, OnOk, IfOk};
 ghost use Rattle.std.specs.List.{All};
 ghost use Rattle.arr_core.specs.Limits.{max_tile};
 ghost use Rattle.wcps_mean.specs.Cells.{at_position};
@@ -10,28 +10,15 @@ ghost use Rattle.tile_columns.specs.Fields.{settled_by};
 use plan_ir::Interval;
 use std::alloc::{AllocError, Global};
 use tile_kernel::Column;
-use wcps_mean::{Outcome, PointFault};
-
-/// Whether a number lies in an interval.
-fn lies_in(z: i64, interval: Interval) -> bool
-    ensures { result ≡ (int_le interval.lo z && int_le z interval.hi) }
-{
-    interval.lo as i64 <= z && z <= interval.hi as i64
-}
+use wcps_mean::{Outcome, coordinate_in};
 
 /// The coordinate of a position that lies in the interval, else the lower bound.
 fn coordinate(position: Outcome, interval: Interval) -> i32
     ensures { result ≡ coordinate_or_lo interval.lo interval.hi position }
 {
-    match position {
-        Outcome::Fault(_) => interval.lo,
-        Outcome::Value(z) => {
-            if lies_in(z, interval) {
-                z as i32
-            } else {
-                interval.lo
-            }
-        }
+    match coordinate_in(position, interval.lo, interval.hi) {
+        Ok(z) => z,
+        Err(_) => interval.lo,
     }
 }
 
@@ -64,15 +51,9 @@ fn write_coordinates(positions: &Column, interval: Interval, list: &mut Vec<i32>
 fn settled(position: Outcome, interval: Interval, o: Outcome) -> Outcome
     ensures { result ≡ at_position position interval.lo interval.hi (λ _. o) }
 {
-    match position {
-        Outcome::Fault(f) => Outcome::Fault(f),
-        Outcome::Value(z) => {
-            if lies_in(z, interval) {
-                o
-            } else {
-                Outcome::Fault(PointFault::OutOfDomain)
-            }
-        }
+    match coordinate_in(position, interval.lo, interval.hi) {
+        Ok(_) => o,
+        Err(f) => Outcome::Fault(f),
     }
 }
 
@@ -80,10 +61,7 @@ fn settled(position: Outcome, interval: Interval, o: Outcome) -> Outcome
 fn is_settled(position: Outcome, interval: Interval) -> bool
     ensures { IsTrue result → IsSettled interval.lo interval.hi position }
 {
-    match position {
-        Outcome::Fault(_) => false,
-        Outcome::Value(z) => lies_in(z, interval),
-    }
+    coordinate_in(position, interval.lo, interval.hi).is_ok()
 }
 
 /// Whether all positions are numbers that lie in the interval.

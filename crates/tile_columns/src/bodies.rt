@@ -27,7 +27,8 @@ use crate::shapes::always_true;
 use crate::sides::{other_of, side_of};
 use crate::source::Tiles;
 use crate::windows::window_of;
-use crate::zones::{Keys, Seen, Zones, keys_of, tell_seen, zones_of};
+use crate::zone_folds::{Keys, Seen, keys_of, tell_seen};
+use crate::zones::{Zones, zones_of};
 use plan_ir::{Body, Fold, Interval, register};
 use tile_kernel::{
     Accumulator, Column, add_column, add_column_where, fold_column, fold_column_where,

@@ -6,7 +6,7 @@ ghost use Rattle.arr_core.specs.Limits.{max_points, max_tile};
 ghost use Rattle.tile_columns.specs.Covering.{TurnsAlong, TurnsOver};
 
 use crate::frame::{Variable, bounds_at, turns_as};
-use arr_core::{Axis, distance};
+use arr_core::{Axis, distance, tile_bounds, tiles_along};
 use plan_ir::Index;
 use tile_kernel::MAX_PLACES;
 
@@ -42,20 +42,17 @@ fn part_under(
     let Some(bounds) = bounds_at(variables, index) else {
         return None;
     };
-    let (lo, hi) = (bounds.lo, bounds.hi);
-    if lo < axis.lo || axis.hi < hi || hi < lo {
+    if bounds.lo < axis.lo || axis.hi < bounds.lo {
         return None;
     }
-    let first = distance(axis.lo, lo);
-    let place = first / edge;
-    let from = place * edge;
-    let to = distance(axis.lo, axis.hi).min(from + (edge - 1));
-    if first != from || distance(axis.lo, hi) != to || !turns_as(variables, index, lo, hi, every) {
+    let place = distance(axis.lo, bounds.lo) / edge;
+    let (lo, hi) = tile_bounds(axis, edge, place);
+    if bounds.lo != lo || bounds.hi != hi || !turns_as(variables, index, lo, hi, every) {
         return None;
     }
     Some(AxisPart {
         place,
-        size: to - from + 1,
+        size: distance(lo, hi) + 1,
     })
 }
 
@@ -70,7 +67,7 @@ fn in_front(axis: &Axis, edge: u64, part: AxisPart, behind: Covered) -> Covered
 {
     Covered {
         number: part.place * behind.tiles + behind.number,
-        tiles: (distance(axis.lo, axis.hi) / edge + 1) * behind.tiles,
+        tiles: tiles_along(axis, edge) * behind.tiles,
         points: part.size * behind.points,
     }
 }

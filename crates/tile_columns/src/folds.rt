@@ -13,7 +13,7 @@ use crate::frame::Frame;
 use arr_core::Domain;
 use std::alloc::{AllocError, Global};
 use tile_kernel::{Accumulator, Column};
-use wcps_mean::{Outcome, is_set, push_point};
+use wcps_mean::{Outcome, is_set};
 use wcps_text::Aggregate;
 
 /// Accumulators of no point, one for each place.
@@ -62,7 +62,7 @@ pub(crate) fn push_place(
 {
     let _all = domain.axes();
     point.clear();
-    push_point(point, domain, place)?;
+    domain.push_point(point, place)?;
     frame.push_numbers(point)?;
     Ok(())
 }

@@ -12,7 +12,7 @@ ghost use Rattle.tile_columns.specs.Covering.{GoesOver};
 use crate::covering::tile_covered;
 use crate::numbers::fill_list;
 use crate::tiling::push_tile;
-use arr_core::{Axis, Domain, distance};
+use arr_core::{Axis, Domain, coordinate, distance};
 use plan_ir::{Index, Interval};
 use std::alloc::{AllocError, Global};
 use std::marker::Model;
@@ -54,8 +54,7 @@ fn turn(lo: i32, hi: i32, every: u64, place: usize) -> i32
     requires some { 0 < every }
     ensures { result ≡ turn lo hi every place }
 {
-    let steps = place as u64 / every % (distance(lo, hi) + 1);
-    (lo as i64 + steps as i64) as i32
+    coordinate(lo, hi, place as u64 / every % (distance(lo, hi) + 1))
 }
 
 impl Variable {
@@ -92,7 +91,7 @@ fn push_axes(variables: &mut Vec<Variable>, axes: &[Axis], total: u64) -> Result
     match axes {
         [] => Ok(()),
         [axis, rest @ ..] => {
-            let every = total / (distance(axis.lo, axis.hi) + 1);
+            let every = total / axis.size();
             variables.push(Variable::Axis(axis.lo, axis.hi, every))?;
             push_axes(variables, rest, every)?;
             Ok(())
@@ -204,7 +203,7 @@ fn turn_as(variables: &[Variable], indexes: &[Index], axes: &[Axis], total: u64)
         [axis, rest @ ..] => match indexes {
             [] => false,
             [index, further @ ..] => {
-                let each = total / (distance(axis.lo, axis.hi) + 1);
+                let each = total / axis.size();
                 if !turns_as(variables, *index, axis.lo, axis.hi, each) {
                     return false;
                 }

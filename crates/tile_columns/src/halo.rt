@@ -10,10 +10,11 @@ ghost use Rattle.tile_columns.specs.Windows.{CanRead, IsReady, AreRowsOf, AreWin
 use crate::frame::Frame;
 use crate::gather::{Reading, read};
 use crate::ground::Ground;
-use crate::reach::{Extents, at_step, narrow, size_of, spans_of};
+use crate::reach::{Extents, narrow, size_of, spans_of};
 use crate::scratch::Scratch;
 use crate::source::Tiles;
 use crate::windows::Window;
+use arr_core::coordinate;
 use plan_ir::{Index, Interval};
 use std::alloc::AllocError;
 use tile_kernel::{Column, Grid, MAX_PLACES, condense_windows};
@@ -117,8 +118,8 @@ fn cells_of<S: Tiles>(
     while done < height {
         let count = most.min(height - done);
         let rows = Interval {
-            lo: at_step(halo, done),
-            hi: at_step(halo, done + (count - 1)),
+            lo: coordinate(halo.lo, halo.hi, done),
+            hi: coordinate(halo.lo, halo.hi, done + (count - 1)),
         };
         read_rows(source, ground, window, rows, scratch, &mut cells)?;
         done += count;

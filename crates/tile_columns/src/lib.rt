@@ -18,6 +18,7 @@ mod locate;
 mod lookup;
 mod numbers;
 mod part;
+mod pattern;
 mod reach;
 mod same;
 mod scratch;
@@ -28,6 +29,7 @@ mod spots;
 mod stretches;
 mod tiling;
 mod windows;
+mod zone_folds;
 mod zones;
 
 pub use bodies::evaluate;

@@ -9,7 +9,7 @@ ghost use Rattle.tile_columns.specs.Locating.{AreInside, tile_along, rank_along,
 use crate::frame::Frame;
 use crate::gather::Reading;
 use crate::scratch::Scratch;
-use arr_core::{Axis, distance};
+use arr_core::{Axis, distance, tile_steps};
 use plan_ir::Index;
 use std::alloc::AllocError;
 
@@ -40,8 +40,7 @@ fn located_along(at: Located, along: Along, x: i64) -> Located
 {
     let above = (x - along.lo as i64) as u64;
     let step = above / along.edge;
-    let from = step * along.edge;
-    let to = along.last.min(from + (along.edge - 1));
+    let (from, to) = tile_steps(along.last, along.edge, step);
     Located {
         tile: at.tile * (along.last / along.edge + 1) + step,
         rank: at.rank * (to - from + 1) + (above - from),

@@ -1,10 +1,10 @@
 //! The numbers of a variable at all places.
 
-ghost use Rattle.std.specs.Prelude.{◌≡◌, ℕ, ◌+◌, ◌<◌, ◌≤◌, ◌^◌, ◌≤ℤ◌, ◌+ℤ◌, pos, length, replicate, OnOk};
+ghost use Rattle.std.specs.Prelude.{◌≡◌, ℕ, ◌+◌, ◌<◌, ◌≤◌, ◌≤ℤ◌, length, replicate, OnOk};
 ghost use Rattle.tile_columns.specs.Frames.{turn, number_of, by_place, HasPlaces, IsTurnAt};
 
 use crate::frame::Variable;
-use arr_core::distance;
+use arr_core::{coordinate, distance, widen};
 use std::alloc::AllocError;
 
 impl Variable {
@@ -25,7 +25,7 @@ impl Variable {
             }
             Variable::Column(zs) => {
                 fill_list(places, 0, numbers)?;
-                copy_numbers(zs, numbers);
+                widen(numbers.as_mut_slice(), zs);
                 Ok(())
             }
         }
@@ -39,17 +39,6 @@ pub(crate) fn fill_list(len: usize, z: i64, numbers: &mut Vec<i64>) -> Result<()
     numbers.clear();
     numbers.resize(len, z)?;
     Ok(())
-}
-
-/// Copies numbers into a list of as many.
-fn copy_numbers(zs: &[i32], numbers: &mut Vec<i64>)
-    requires { length numbers.old.items ≡ length zs.now }
-    ensures { numbers.new.items ≡ zs.now }
-{
-    let all = numbers.as_mut_slice();
-    for place in 0..zs.len() {
-        all[place] = zs[place] as i64;
-    }
 }
 
 /// Where the coordinates of an axis stand: how far above the first one, and how many times this one has come.
@@ -83,14 +72,6 @@ fn turned(now: Turn, last: u64, every: u64) -> Turn
     Turn { step: 0, times: 0 }
 }
 
-/// The coordinate that is so far above another.
-fn above(lo: i32, step: u64) -> i64
-    requires { step < 2 ^ 32 }
-    ensures { result ≡ lo +ℤ pos step }
-{
-    lo as i64 + step as i64
-}
-
 /// Writes the coordinates of an axis, each so many times, over and over.
 fn write_turns(lo: i32, hi: i32, every: u64, numbers: &mut Vec<i64>)
     requires ordered { lo ≤ℤ hi }
@@ -101,7 +82,7 @@ fn write_turns(lo: i32, hi: i32, every: u64, numbers: &mut Vec<i64>)
     let all = numbers.as_mut_slice();
     let mut now = Turn { step: 0, times: 0 };
     for place in 0..all.len() {
-        all[place] = above(lo, now.step);
+        all[place] = coordinate(lo, hi, now.step) as i64;
         now = turned(now, last, every);
     }
 }

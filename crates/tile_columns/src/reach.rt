@@ -5,7 +5,7 @@ ghost use Rattle.std.specs.Int.{int_max, int_min};
 ghost use Rattle.std.specs.List.{All};
 ghost use Rattle.tile_columns.specs.Reaching.{extent, reached_by, along, AreSpansOf, EndsBy, IsReach, HasExtents, Encloses};
 
-use arr_core::{Axis, Domain, distance};
+use arr_core::{Axis, Domain, coordinate, distance};
 use plan_ir::Interval;
 use std::alloc::{AllocError, Global};
 use tile_kernel::Span;
@@ -151,17 +151,6 @@ fn steps_to(base: i32, z: i64) -> usize
     (z - base as i64) as usize
 }
 
-/// The coordinate of an interval so far above its first one.
-pub(crate) fn at_step(interval: Interval, step: u64) -> i32
-    requires step { step < extent interval }
-    requires ordered { interval.lo ≤ℤ interval.hi }
-    ensures value { result ≡ interval.lo +ℤ pos step }
-    ensures within { (interval.lo ≤ℤ result) × (result ≤ℤ interval.hi) }
-{
-    let _last = interval.hi;
-    (interval.lo as i64 + step as i64) as i32
-}
-
 /// Where the coordinates that the window of a place reaches stand in the halo.
 fn span_at(reach: &Reach, place: i32) -> Span
     requires reach { IsReach reach.now }
@@ -191,8 +180,8 @@ pub(crate) fn spans_of(alloc: Global, reach: &Reach) -> Result<Vec<Span>, AllocE
 {
     let mut spans = Vec::new(alloc);
     for step in 0..size_of(reach.places) {
-        let span = span_at(reach, at_step(reach.places, step));
-        spans.push(span)?;
+        let place = coordinate(reach.places.lo, reach.places.hi, step);
+        spans.push(span_at(reach, place))?;
     }
     Ok(spans)
 }

@@ -22,7 +22,8 @@ use Rattle.wcps_mean.proofs.Feeds.{else_fault, first_fault-append}
 use Rattle.plan_ir.specs.Bodies.{Tree}
 use Rattle.plan_ir.specs.Plans.{BindTree, FieldBody, ItemTree}
 use Rattle.plan_ir.specs.Run.{run}
-use Rattle.plan_ir.specs.Planned.{coordinate, bound, field_cell, cells_at, item_planned}
+use Rattle.wcps_mean.specs.Cells.{coordinate_in}
+use Rattle.plan_ir.specs.Planned.{bound, field_cell, cells_at, item_planned}
 use Rattle.tile_kernel.specs.Told.{Told, outcomes, AreRising}
 use Rattle.tile_kernel.proofs.Faults.{fault_in_order}
 use Rattle.tile_columns.specs.TileOrder.{points_to}
@@ -51,7 +52,7 @@ position_within s regs binds e vars z false h = refl
 
 run_position : (s : ℕ → ℕ → List ℤ → ℤ) (regs : List Outcome) (b : BindTree) (binds : List BindTree) (e : Tree) (vars : List ℤ) (o : Outcome)
     → ((more : List ℤ) → run s regs (behind binds e) more ≡ run_bound s regs e (bound s regs binds more))
-    → at_position o b.lo b.hi (λ z. run s regs (behind binds e) (vars ++ z ∷ [])) ≡ run_bound s regs e (then_of (coordinate o b.lo b.hi) (λ z. bound s regs binds (vars ++ z ∷ [])))
+    → at_position o b.lo b.hi (λ z. run s regs (behind binds e) (vars ++ z ∷ [])) ≡ run_bound s regs e (then_of (coordinate_in o b.lo b.hi) (λ z. bound s regs binds (vars ++ z ∷ [])))
 run_position s regs b binds e vars (Fault f) h = refl
 run_position s regs b binds e vars (Value z) h = position_within s regs binds e vars z (int_le b.lo z && int_le z b.hi) h
 

@@ -1,16 +1,15 @@
 -- A part of few cells has few.
-use Rattle.std.proofs.Common.{◌≡◌, ℕ, zero, suc, ◌*◌, ◌<◌, ◌≤◌, List, [], ◌∷◌, length, get_or, map, Bool, Option, Some, sym, subst, ◌∙◌, arith}
+use Rattle.std.proofs.Common.{◌≡◌, ℕ, zero, suc, ◌*◌, ◌<◌, ◌≤◌, List, [], ◌∷◌, length, get_or, map, Bool, sym, subst, ◌∙◌, arith}
 use Rattle.std.proofs.lemmas.List.{length-map}
 use Rattle.arr_core.specs.declared.domain.Axis.{Axis}
 use Rattle.arr_core.specs.Domains.{count}
 use Rattle.wcps_types.specs.declared.typed.Node.{Node}
 use Rattle.wcps_types.specs.declared.typed.Tree.{Tree}
 use Rattle.wcps_types.specs.Typed.{CombinationTree, fields_view, tree_view}
-use Rattle.wcps_types.specs.Renamed.{renamed_field, over}
+use Rattle.wcps_types.specs.Renamed.{renamed_field}
 use Rattle.wcps_types.specs.Cells.{result_cells}
 use Rattle.wcps_types.proofs.Efforts.{field_places}
-use Rattle.wcps_types.proofs.SharedEfforts.{cells_over}
-use Rattle.wcps_mean.proofs.Ranks.{positive}
+use Rattle.arr_core.proofs.Points.{count-pos}
 
 -- of one combination
 pub few_in_one : {X : Type 0} (view : X → CombinationTree) (all : List X) (k : ℕ) (x : X) (m : ℕ) → k < length all → x ≡ get_or all k x → result_cells (map view all) ≤ m → result_cells (view x ∷ []) ≤ m
@@ -34,7 +33,7 @@ at_least (suc n) k m p h = grind (arith, h)
 
 -- the fields of an item are no more than its cells
 pub few_fields : (axes : List Axis) (k m : ℕ) → count axes * k ≤ m → k ≤ m
-few_fields axes k m h = at_least (count axes) k m (positive axes) h
+few_fields axes k m h = at_least (count axes) k m (count-pos axes) h
 
 -- the points of an item times its fields
 pub few_products : (axes : List Axis) (k n j m : ℕ) → n ≡ count axes → j ≡ k → count axes * k ≤ m → n * j ≤ m

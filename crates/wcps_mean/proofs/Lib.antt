@@ -1,5 +1,4 @@
 pub mod Divides
-pub mod Ranks
 pub mod Factors
 pub mod Feeds
 pub mod Stacks

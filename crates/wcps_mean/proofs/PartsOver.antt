@@ -1,5 +1,5 @@
 -- A part of a tree over coverages is the tree's part over them.
-use Rattle.std.proofs.Common.{◌≡◌, ℕ, zero, suc, ℤ, List, [], ◌∷◌, map, refl, ap, sym, ◌∙◌, Bool, true, false}
+use Rattle.std.proofs.Common.{◌≡◌, ℕ, zero, suc, ℤ, List, [], ◌∷◌, map, refl, ap, sym, ◌∙◌, true, false}
 use Rattle.std.specs.Prelude.{pos, Option, Some, None, slice_get, option_map, option_and_then, is_some, unwrap_or}
 use Rattle.wcps_types.specs.Typed.{Typed, number, iterator, cell, unary, binary, scalar, select, bracket, slice, array, listed, condense, condense_where, reduce, FieldTree, CombinationTree}
 use Rattle.wcps_types.specs.Renamed.{renamed, renamed_field, renamed_combination, nothing, over}

@@ -1,5 +1,5 @@
 -- Calls that leave what they found, and outcomes in a scope that is as it was.
-use Rattle.std.proofs.Common.{◌≡◌, ℕ, ℤ, List, [], ◌++◌, drop, insert, ap, ◌∙◌}
+use Rattle.std.proofs.Common.{◌≡◌, ℕ, ℤ, List, drop, insert, ap, ◌∙◌}
 use Rattle.wcps_types.specs.Typed.{Typed}
 use Rattle.wcps_types.specs.Renamed.{renamed}
 use Rattle.wcps_mean.specs.declared.cells.Cells.{Ghosts}

@@ -4,6 +4,7 @@ use Rattle.arr_core.specs.declared.cell.Cell.{Cell}
 use Rattle.arr_core.specs.declared.cell.Cell.TheVariants as cells
 use Rattle.arr_core.specs.declared.domain.Axis.{Axis}
 use Rattle.arr_core.specs.Domains.{points, size_of}
+pub use Rattle.wcps_types.specs.Shapes.{then_of}
 use Rattle.wcps_types.specs.Typed.{Typed, FieldTree, ItemTree, CombinationTree, TypedTree}
 use Rattle.wcps_mean.specs.declared.cell.PointFault.{PointFault}
 use Rattle.wcps_mean.specs.declared.cell.Outcome.{Outcome}
@@ -11,11 +12,6 @@ use Rattle.wcps_mean.specs.declared.cell.Outcome.TheVariants.{Value, Fault}
 use Rattle.wcps_mean.specs.declared.item.Item.{Item}
 use Rattle.arr_core.specs.Cells.{truth_of}
 use Rattle.wcps_mean.specs.Meaning.{val}
-
--- goes on with a value, or stops at a fault
-abbrev pub then_of : {A B : Type 0} → Result A PointFault → (A → Result B PointFault) → Result B PointFault
-then_of (Err f) go = Err f
-then_of (Ok a) go = go a
 
 -- the value that an outcome gives, or its fault
 abbrev pub given : {A : Type 0} → (ℤ → A) → Outcome → Result A PointFault

@@ -86,6 +86,11 @@ operate2 op (Fault f) r = Fault f
 operate2 op (Value x) (Fault f) = Fault f
 operate2 op (Value x) (Value y) = exact2 op x y
 
+-- a position as a coordinate from lo to hi, or its fault
+abbrev pub coordinate_in : Outcome → ℤ → ℤ → Result ℤ PointFault
+coordinate_in (Fault f) lo hi = Err f
+coordinate_in (Value z) lo hi = cond (int_le lo z && int_le z hi) (Ok z) (Err OutOfDomain)
+
 -- goes on with a coordinate that lies from lo to hi
 abbrev pub at_position : Outcome → ℤ → ℤ → (ℤ → Outcome) → Outcome
 at_position (Fault f) lo hi go = Fault f

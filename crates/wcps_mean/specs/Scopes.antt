@@ -1,5 +1,5 @@
 -- Outcomes and cells in a scope.
-use Rattle.std.specs.Prelude.{◌≡◌, ℕ, ℤ, List, [], drop, insert, Result}
+use Rattle.std.specs.Prelude.{◌≡◌, ℕ, ℤ, List, drop, insert, Result}
 use Rattle.arr_core.specs.declared.cell.Cell.{Cell}
 use Rattle.wcps_types.specs.declared.typed.TypedItem.{TypedItem}
 use Rattle.wcps_types.specs.declared.typed.Tree.{Tree}

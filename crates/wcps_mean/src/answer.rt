@@ -15,7 +15,6 @@ use crate::cell::{Outcome, PointFault, is_set};
 use crate::cells::{CellError, Cells};
 use crate::eval::eval;
 use crate::item::{CellList, Item};
-use crate::points::push_point;
 use crate::scope::Scope;
 use arr_core::{Axis, Cell};
 use std::alloc::{AllocError, AllocFailed, Global};
@@ -168,7 +167,7 @@ fn item_of<C: Cells>(
     let mut list = Vec::with_capacity(alloc, count as usize)?;
     let mut scope = Scope::new(alloc, coverages);
     for place in 0..item.domain.points() {
-        push_point(&mut scope.points, &item.domain, place)?;
+        item.domain.push_point(&mut scope.points, place)?;
         push_cells(cells, &mut scope, item, &mut list)?;
         scope.points.truncate(0);
     }

@@ -6,7 +6,7 @@
 ghost use Rattle.std.specs.Prelude.{◌≡◌, ◌≤◌, ℤ, ◌+ℤ◌, ◌-ℤ◌, ◌*ℤ◌, neg_ℤ, pos, nat_abs, int_lt, int_le, SomeIff, FitsSigned, cond, not, ◌&&◌, ◌||◌};
 ghost use Rattle.std.specs.Int.{w64};
 ghost use Rattle.arr_core.specs.Cells.{truth_of};
-ghost use Rattle.wcps_mean.specs.Cells.{ranged, truth, quotient, bit, int_eq, exact1, exact2, operate1, operate2};
+ghost use Rattle.wcps_mean.specs.Cells.{ranged, truth, quotient, bit, int_eq, exact1, exact2, operate1, operate2, coordinate_in, at_position, TestsAs};
 
 use arr_core::Refusal;
 use wcps_text::{BinaryOperator, UnaryOperator};
@@ -211,5 +211,22 @@ pub fn operate_both(op: BinaryOperator, left: Outcome, right: Outcome) -> Outcom
             Outcome::Fault(f) => Outcome::Fault(f),
             Outcome::Value(y) => operate_on_values(op, x, y),
         },
+    }
+}
+
+/// A position as a coordinate between two bounds, or its fault: `OutOfDomain` where it lies outside of them.
+pub fn coordinate_in(position: Outcome, lo: i32, hi: i32) -> Result<i32, PointFault>
+    ensures value { result ≡ coordinate_in position lo hi }
+    ensures tests { TestsAs result (at_position position lo hi) }
+{
+    match position {
+        Outcome::Fault(f) => Err(f),
+        Outcome::Value(z) => {
+            if lo as i64 <= z && z <= hi as i64 {
+                Ok(z as i32)
+            } else {
+                Err(PointFault::OutOfDomain)
+            }
+        }
     }
 }

@@ -3,7 +3,6 @@
 ghost use Rattle.std.specs.Prelude.{◌≡◌, ℕ, ◌+◌, ◌<◌, ◌≤◌, ℤ, List, [], ◌∷◌, ◌++◌, length, OnOk, map, drop, insert, vec_len};
 ghost use Rattle.arr_core.specs.Domains.{points as box_points};
 ghost use Rattle.wcps_mean.specs.declared.cell.Outcome.{Outcome};
-ghost use Rattle.wcps_mean.specs.Cells.{at_position, TestsAs};
 ghost use Rattle.wcps_mean.specs.Condensers.{condensed};
 ghost use Rattle.wcps_mean.specs.Meaning.{val};
 ghost use Rattle.wcps_mean.specs.Reading.{Leaves, Returns};
@@ -12,10 +11,9 @@ ghost use Rattle.wcps_mean.specs.Scopes.{IsSame, outcome_in, outcome_with, point
 ghost use Rattle.wcps_types.specs.Typed.{field_tree, only_tree, scalar, array, condense, reduce};
 ghost use Rattle.wcps_types.specs.Renamed.{renamed};
 
-use crate::cell::{Outcome, PointFault, operate, operate_both};
+use crate::cell::{Outcome, coordinate_in, operate, operate_both};
 use crate::cells::{CellError, Cells};
 use crate::lookup::{coordinate_at, item_at, place_at};
-use crate::points::push_point;
 use crate::running::Running;
 use crate::scope::Scope;
 use arr_core::{Domain, rank_of};
@@ -69,7 +67,7 @@ pub(crate) fn eval<C: Cells>(
             position,
         } => {
             let x = at_empty_point(cells, scope, position, 0)?;
-            match coordinate(x, *lo, *hi) {
+            match coordinate_in(x, *lo, *hi) {
                 Err(f) => Ok(Outcome::Fault(f)),
                 Ok(z) => {
                     let o = at_coordinate(cells, scope, value, field, *axis, z)?;
@@ -95,7 +93,7 @@ pub(crate) fn eval<C: Cells>(
             let mut running = Running::new(*op);
             let depth = scope.iterators.len();
             for place in 0..domain.points() {
-                push_point(&mut scope.iterators, domain, place)?;
+                domain.push_point(&mut scope.iterators, place)?;
                 let c = at_empty_point(cells, scope, condition, 0)?;
                 if running.demands(c) {
                     let o = at_empty_point(cells, scope, body, 0)?;
@@ -194,7 +192,7 @@ fn condense<C: Cells>(
     let mut running = Running::new(op);
     let depth = scope.iterators.len();
     for place in 0..domain.points() {
-        push_point(&mut scope.iterators, domain, place)?;
+        domain.push_point(&mut scope.iterators, place)?;
         let o = at_empty_point(cells, scope, e, 0)?;
         scope.iterators.truncate(depth);
         running.add(o);
@@ -221,7 +219,7 @@ fn reduce<C: Cells>(
     let top = scope.points.len();
     scope.base = top;
     for place in 0..domain.points() {
-        push_point(&mut scope.points, domain, place)?;
+        domain.push_point(&mut scope.points, place)?;
         let o = eval(cells, scope, e, 0)?;
         scope.points.truncate(top);
         running.add(o);
@@ -237,20 +235,4 @@ fn put_in(list: &mut Vec<i32>, at: usize, z: i32) -> Result<(), AllocError>
 {
     list.insert(at, z)?;
     Ok(())
-}
-
-/// The coordinate of a position that lies in its interval, or its fault.
-fn coordinate(x: Outcome, lo: i32, hi: i32) -> Result<i32, PointFault>
-    ensures { TestsAs result (at_position x lo hi) }
-{
-    match x {
-        Outcome::Fault(f) => Err(f),
-        Outcome::Value(z) => {
-            if lo as i64 <= z && z <= hi as i64 {
-                Ok(z as i32)
-            } else {
-                Err(PointFault::OutOfDomain)
-            }
-        }
-    }
 }

@@ -2,6 +2,7 @@
 use Rattle.std.specs.Prelude.{ℕ, ℤ, pos, negsuc, List, [], ◌∷◌, ◌++◌, map, Bool, cond, ◌&&◌, ◌||◌, int_le, int_lt, Option, Some, None, is_some, slice_get, remove, option_map, Ok, Err}
 use Rattle.arr_core.specs.declared.domain.Axis.{Axis}
 use Rattle.arr_core.specs.Domains.{narrowed, axis_place}
+use Rattle.arr_core.specs.Limits.{max_bound}
 use Rattle.wcps_types.specs.declared.refusal.TypeRefusal.TheVariants.{NoSuchAxis, AxisTwice, TrimOutside, NeedsInteger, BadInterval}
 use Rattle.wcps_types.specs.declared.bounds.Bounds.{Bounds}
 use Rattle.wcps_types.specs.declared.brackets.Cut.{Cut}
@@ -34,10 +35,6 @@ cut_view c = record { axis = c.axis; position = boxed_tree c.position }
 
 abbrev pub bracket_view : Bracket → BracketTree
 bracket_view b = record { domain = b.domain; named = b.named.items; cuts = map cut_view b.cuts.items }
-
--- the greatest bound of an axis; the least one is below its negation by 1
-abbrev pub max_bound : ℕ
-max_bound = 2147483647
 
 -- bounds as they are written: not the lower one above the upper one, and both of 32 bits
 abbrev pub written_bounds : ℤ → ℤ → Answer BoundsOf

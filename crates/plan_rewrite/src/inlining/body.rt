@@ -11,7 +11,7 @@ use crate::variables::{index_at, variable, with_interval, with_levels, with_span
 use plan_ir::{Body, Fold, Index, Interval};
 use std::alloc::{AllocError, Global};
 use std::mem;
-use wcps_mean::{Outcome, operate};
+use wcps_mean::{Outcome, coordinate_in, operate};
 
 /// Inlines the binds of a body, which gets the variables of `scope`, each by its interval; `env` has an index for each
 /// variable of the old one.
@@ -158,13 +158,10 @@ fn constant_in(interval: Interval, number: Option<i64>) -> Option<Index>
 {
     match number {
         None => None,
-        Some(z) => {
-            if interval.lo as i64 <= z && z <= interval.hi as i64 {
-                Some(Index::Const(z as i32))
-            } else {
-                None
-            }
-        }
+        Some(z) => match coordinate_in(Outcome::Value(z), interval.lo, interval.hi) {
+            Ok(z) => Some(Index::Const(z)),
+            Err(_) => None,
+        },
     }
 }
 

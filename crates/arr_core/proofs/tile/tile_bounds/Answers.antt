@@ -8,6 +8,9 @@ use Rattle.arr_core.proofs.tile.tile_bounds.Goals as goal
 
 pub returns-clause-hi : goal.returns-clause-hi
 returns-clause-hi c =
+    let a = c.args.axis.now in
+    let low : SFits w32 a.lo = search rules in
     let high : SFits w32 c.coordinate-2.result = search rules in
-    let to : c.min-to.result ≡ min (gap c.args.axis.now.lo c.args.axis.now.hi) (c.args.place * c.args.edge + (c.args.edge - 1)) = search rules in
-    to_z-of_z w32 c.coordinate-2.result high ∙ c.coordinate-2.ensures ∙ ap (λ n. c.args.axis.now.lo +ℤ pos n) to ∙ part-hi c.args.edge c.args.axis.now c.args.place c.requires.ordered
+    let to : c.tile_steps-from.result.1 ≡ min (gap a.lo a.hi) (c.args.place * c.args.edge + (c.args.edge - 1)) = search rules in
+    to_z-of_z w32 c.coordinate-2.result high ∙ c.coordinate-2.ensures ∙ ap (λ z. z +ℤ pos c.tile_steps-from.result.1) (to_z-of_z w32 a.lo low)
+    ∙ ap (λ n. a.lo +ℤ pos n) to ∙ part-hi c.args.edge a c.args.place c.requires.ordered

@@ -5,7 +5,7 @@ use Rattle.arr_core.specs.Domains.{count}
 use Rattle.arr_core.specs.Limits.{max_points}
 use Rattle.arr_core.proofs.Points.{count-rest}
 use Rattle.arr_core.proofs.Grids.{count-grid}
-use Rattle.wcps_mean.proofs.Ranks.{cut}
+use Rattle.arr_core.proofs.FirstAxis.{cut}
 use Rattle.tile_columns.proofs.Locating.{cut_first}
 use Rattle.tile_columns.proofs.Coverings.{turns_more}
 use Rattle.tile_columns.proofs.covering.+tile_covered.Goals as goal

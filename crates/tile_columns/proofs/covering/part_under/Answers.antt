@@ -1,37 +1,34 @@
 -- The bounds of the variable are those of the part of the axis at their place.
-use Rattle.std.proofs.Common.{rules, ◌≡◌, ◌∙◌, ◌+◌, ◌-◌, ◌*◌, ◌/◌, min, sym, ap, pos, SFits, w32, to_z, of_z}
-use Rattle.std.proofs.lemmas.Int.{to_z-of_z}
+use Rattle.std.proofs.Common.{rules, arith, ◌≡◌, ◌∙◌, ◌+◌, ◌/◌, ◌≤◌, sym, ap, subst, pos, SFits, w32, to_z, of_z}
+use Rattle.std.proofs.lemmas.Int.{ints, to_z-of_z}
 use Rattle.arr_core.specs.Domains.{gap}
 use Rattle.arr_core.specs.Tiles.{part_of}
+use Rattle.arr_core.proofs.Grids.{div-mono}
 use Rattle.tile_columns.specs.Frames.{turn}
 use Rattle.tile_columns.proofs.Turns.{gap_of}
-use Rattle.tile_columns.proofs.Coverings.{Part, part_is}
 use Rattle.tile_columns.proofs.covering.part_under.Goals as goal
 
 pub returns-clause-turns : goal.returns-clause-turns
 returns-clause-turns c =
     let a = c.args.axis.now in
     let edge = c.args.edge in
-    let lo = c.in-Some.bounds.lo in
-    let hi = c.in-Some.bounds.hi in
-    let place = c.distance-first.result / edge in
-    let size = c.min-to.result - place * edge + 1 in
+    let lo = c.tile_bounds-lo.result.0 in
+    let hi = c.tile_bounds-lo.result.1 in
+    let part = part_of edge a (pos (c.distance.result / edge)) in
     let begin : SFits w32 a.lo = search rules in
     let end : SFits w32 a.hi = search rules in
+    let first : SFits w32 c.in-Some.bounds.lo = search rules in
     let low : SFits w32 lo = search rules in
     let high : SFits w32 hi = search rules in
     let same_lo : to_z w32 (of_z w32 lo) ≡ lo = to_z-of_z w32 lo low in
     let same_hi : to_z w32 (of_z w32 hi) ≡ hi = to_z-of_z w32 hi high in
-    let first : c.distance-first.result ≡ gap a.lo lo = gap_of _ _ _ a.lo lo c.distance-first.ensures.gap (to_z-of_z w32 a.lo begin) same_lo in
-    let last : c.distance-else-first-from.result ≡ gap a.lo hi = gap_of _ _ _ a.lo hi c.distance-else-first-from.ensures.gap (to_z-of_z w32 a.lo begin) same_hi in
-    let whole : c.distance.result ≡ gap a.lo a.hi = gap_of _ _ _ a.lo a.hi c.distance.ensures.gap (to_z-of_z w32 a.lo begin) (to_z-of_z w32 a.hi end) in
-    let to : c.min-to.result ≡ min c.distance.result (place * edge + (edge - 1)) = search rules in
-    let part : Part edge a lo hi place size = part_is edge a lo hi place c.min-to.result size c.requires.some (search rules) (search rules) (search rules)
-    (ap (λ n. n / edge) first) (sym first ∙ c.if-first-from.false) (to ∙ ap (λ n. min n (place * edge + (edge - 1))) whole) (sym last ∙ c.if-distance-to.false) (search rules) in
+    let above : c.distance.result ≡ gap a.lo c.in-Some.bounds.lo = gap_of _ _ _ a.lo c.in-Some.bounds.lo c.distance.ensures.gap (to_z-of_z w32 a.lo begin) (to_z-of_z w32 c.in-Some.bounds.lo first) in
+    let less : gap a.lo c.in-Some.bounds.lo ≤ gap a.lo a.hi = omega (arith, ints, begin, end, first, c.if-bounds-axis.false, c.if-axis-bounds.false) in
+    let wide : c.distance-2.result ≡ gap lo hi = gap_of _ _ _ lo hi c.distance-2.ensures.gap same_lo same_hi in
     record {
-      within = part.within;
-      size = part.size_is;
+      within = subst (λ n. n / edge ≤ gap a.lo a.hi / edge) (sym above) (div-mono (gap a.lo c.in-Some.bounds.lo) (gap a.lo a.hi) edge c.requires.some less);
+      size = ap (λ n. n + 1) wide ∙ ap (λ x. gap x hi + 1) c.tile_bounds-lo.ensures.lo ∙ ap (λ x. gap part.lo x + 1) c.tile_bounds-lo.ensures.hi;
       turns = λ k. c.turns_as.ensures c.if-not-turns_as.false k
-          ∙ ap (λ x. turn x (to_z w32 (of_z w32 hi)) c.args.every k) (same_lo ∙ part.first)
-          ∙ ap (λ x. turn (part_of edge a (pos place)).lo x c.args.every k) (same_hi ∙ part.last);
+          ∙ ap (λ x. turn x (to_z w32 (of_z w32 hi)) c.args.every k) (same_lo ∙ c.tile_bounds-lo.ensures.lo)
+          ∙ ap (λ x. turn part.lo x c.args.every k) (same_hi ∙ c.tile_bounds-lo.ensures.hi);
     }

@@ -4,7 +4,7 @@ use Rattle.std.specs.Prelude.{sum_by, OnOk}
 use Rattle.std.specs.List.{All}
 use Rattle.std.proofs.lemmas.Int.{to_z-of_z}
 use Rattle.std.proofs.lemmas.List.{length-map}
-use Rattle.wcps_mean.proofs.Ranks.{cut}
+use Rattle.arr_core.proofs.FirstAxis.{cut}
 use Rattle.wcps_mean.specs.declared.cell.Outcome.TheVariants.{Value}
 use Rattle.plan_ir.specs.declared.plan.Bind.{Bind}
 use Rattle.plan_ir.specs.Bodies.{body_view}

@@ -2,7 +2,7 @@
 use Rattle.std.proofs.Common.{◌∙◌, rules, SFits, w32, pos}
 use Rattle.std.proofs.lemmas.Int.{to_z-of_z}
 use Rattle.plan_ir.specs.declared.body.Index.TheVariants.{Const}
-use Rattle.wcps_mean.proofs.Ranks.{cut}
+use Rattle.arr_core.proofs.FirstAxis.{cut}
 use Rattle.tile_columns.proofs.Turns.{gap_of}
 use Rattle.tile_columns.proofs.Locating.{cut_first, head, axis_inside, axis_small, counted_tile, counted_rank, stays_below}
 use Rattle.tile_columns.proofs.locate.+add_axes.Goals as goal

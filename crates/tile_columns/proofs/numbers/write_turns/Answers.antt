@@ -1,6 +1,7 @@
 -- One more place has its coordinate.
-use Rattle.std.proofs.Common.{◌∙◌, ap, arith, rules, length, pos, SFits, w32, w64, to_z, of_z}
+use Rattle.std.proofs.Common.{◌∙◌, ap, arith, rules, length, pos, SFits, w32, to_z, of_z}
 use Rattle.std.proofs.lemmas.Int.{to_z-of_z}
+use Rattle.tile_kernel.proofs.Results.{widened}
 use Rattle.std.proofs.lemmas.List.FromFn.{fill_by_all}
 use Rattle.tile_kernel.proofs.Places.{written_back}
 use Rattle.tile_columns.specs.Frames.{turn}
@@ -20,10 +21,10 @@ pub loop-place-preserved : goal.loop-place-preserved
 loop-place-preserved c =
     let inv = c.loop-place.invariant in
     let n = c.turned-now.ensures.next c.loop-place.place inv.turn in
-    let fits : SFits w64 c.above.result = search rules in
+    let fits : SFits w32 c.coordinate.result = search rules in
     record {
       written = written_more (turn (to_z w32 (of_z w32 c.args.lo)) (to_z w32 (of_z w32 c.args.hi)) c.args.every) c.loop-place.all c.loop-place.place _ (pos 0) (omega arith)
-          (to_z-of_z w64 c.above.result fits ∙ c.above.ensures
+          (widened c.coordinate.result fits ∙ c.coordinate.ensures
           ∙ turn_here (to_z w32 (of_z w32 c.args.lo)) (to_z w32 (of_z w32 c.args.hi)) c.args.every c.loop-place.place c.distance-last.result c.loop-place.now.step inv.turn.0 c.distance-last.ensures.gap) inv.written;
       turn = n;
       low = c.turned-now.ensures.step;

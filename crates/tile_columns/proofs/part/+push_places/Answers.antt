@@ -2,7 +2,7 @@
 use Rattle.std.proofs.Common.{rules, arith, ◌≡◌, ◌+◌, ◌*◌, ◌-◌, ◌<◌, ◌++◌, ◌∙◌, ap, List, ℕ, length, map, take, drop}
 use Rattle.std.proofs.lemmas.Grind.{common_steps}
 use Rattle.arr_core.specs.Domains.{points, rank_of, size_of}
-use Rattle.wcps_mean.proofs.Ranks.{cut}
+use Rattle.arr_core.proofs.FirstAxis.{cut}
 use Rattle.tile_columns.proofs.ByRows.{cut_boxes, row_few, rows_more, all_rows, last_axis}
 use Rattle.tile_columns.proofs.Fetching.{on_ok}
 use Rattle.tile_columns.proofs.part.+push_places.Goals as goal

@@ -10,12 +10,12 @@ pub loop-step-preserved : goal.loop-step-preserved
 loop-step-preserved c =
     let inv = c.loop-step.invariant in
     let r = c.args.reach.now in
-    let fits : SFits w32 c.at_step.result = search rules in
-    let same : along r.halo.lo c.span_at-span.result ≡ reached_by r c.at_step.result = grind (arith, to_z-of_z, c.span_at-span.ensures.reached) in
-    let here : c.at_step.result ≡ r.places.lo +ℤ pos c.loop-step.step = omega (arith, ints, c.at_step.ensures.value) in
+    let fits : SFits w32 c.coordinate-place.result = search rules in
+    let same : along r.halo.lo c.span_at.result ≡ reached_by r c.coordinate-place.result = grind (arith, to_z-of_z, c.span_at.ensures.reached) in
+    let here : c.coordinate-place.result ≡ r.places.lo +ℤ pos c.loop-step.step = omega (arith, ints, c.coordinate-place.ensures) in
     record {
-      reached = span_more r c.loop-step.spans.items c.push.new.self.items c.span_at-span.result c.at_step.result c.loop-step.step c.in_ok-push.ensures.items here same inv.reached;
-      within = ends_more _ c.loop-step.spans.items c.push.new.self.items c.span_at-span.result c.in_ok-push.ensures.items c.span_at-span.ensures.within inv.within;
+      reached = span_more r c.loop-step.spans.items c.push.new.self.items c.span_at.result c.coordinate-place.result c.loop-step.step c.in_ok-push.ensures.items here same inv.reached;
+      within = ends_more _ c.loop-step.spans.items c.push.new.self.items c.span_at.result c.in_ok-push.ensures.items c.span_at.ensures.within inv.within;
       many = grind (arith, common_steps, inv.many, c.in_ok-push.ensures.items);
     }
 

@@ -2,7 +2,7 @@
 use Rattle.std.proofs.Common.{◌≡◌, ◌∙◌, ◌+◌, ◌-◌, ◌*◌, arith, rules, ap, refl, length, take, drop, SFits, w32, to_z, of_z}
 use Rattle.std.proofs.lemmas.Int.{to_z-of_z}
 use Rattle.arr_core.specs.Domains.{gap}
-use Rattle.wcps_mean.proofs.Ranks.{cut}
+use Rattle.arr_core.proofs.FirstAxis.{cut}
 use Rattle.tile_columns.proofs.Turns.{gap_of}
 use Rattle.tile_columns.proofs.Tilings.{adds_more, part_small, place_within}
 use Rattle.tile_columns.proofs.tiling.+push_tile.Goals as goal

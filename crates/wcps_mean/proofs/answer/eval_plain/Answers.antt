@@ -1,9 +1,9 @@
 -- One more combination has given its item, if any, and the fault of the first one with a fault is the answer.
-use Rattle.std.proofs.Common.{◌<◌, ◌≤◌, ◌∙◌, ap, sym, subst, arith, length, map, get_or, Ok}
+use Rattle.std.proofs.Common.{◌<◌, ◌∙◌, ap, sym, arith, length, get_or, Ok}
 use Rattle.std.proofs.lemmas.Result.{err_from_is_err_and}
 use Rattle.wcps_types.specs.Renamed.{combination_view}
 use Rattle.wcps_types.specs.TypedQueries.{trees_in}
-use Rattle.wcps_types.specs.Cells.{result_cells, max_cells}
+use Rattle.wcps_types.specs.Cells.{max_cells}
 use Rattle.wcps_mean.specs.Answer.{combination_answer, joined}
 use Rattle.wcps_mean.proofs.FewCells.{few_in_one}
 use Rattle.wcps_mean.proofs.Scoped.{leaves-on}

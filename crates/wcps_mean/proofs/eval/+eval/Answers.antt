@@ -1,5 +1,5 @@
 -- Slices, condensers, reductions and records give what they mean at a point, and report what their parts report.
-use Rattle.std.proofs.Common.{rules, ◌≡◌, ◌<◌, ◌≤◌, ◌+◌, ◌∙◌, ap, sym, refl, subst, arith, List, [], ◌++◌, length, map, take, drop, insert, get_or, ℤ, w32, SFits, to_z, of_z}
+use Rattle.std.proofs.Common.{rules, ◌≡◌, ◌<◌, ◌≤◌, ◌+◌, ◌∙◌, ap, sym, refl, subst, arith, List, [], ◌++◌, length, take, get_or, ℤ, w32, SFits}
 use Rattle.std.specs.List.{flat_map}
 use Rattle.std.proofs.lemmas.Int.{to_z-of_z}
 use Rattle.std.proofs.lemmas.Result.{err_from_is_err_and}
@@ -16,7 +16,7 @@ use Rattle.wcps_mean.specs.Condensers.{condensed, demanded}
 use Rattle.wcps_mean.specs.Feeding.{Fed}
 use Rattle.wcps_mean.specs.Meaning.{val}
 use Rattle.wcps_mean.specs.Reading.{Leaves}
-use Rattle.wcps_mean.specs.Scopes.{IsSame, outcome_in, outcome_with, point_in}
+use Rattle.wcps_mean.specs.Scopes.{IsSame, outcome_in, outcome_with}
 use Rattle.wcps_mean.proofs.Feeds.{fed_more, fed_part, fed-demanded, fed-otherwise}
 use Rattle.wcps_mean.proofs.Stacks.{cut-back, on-top, take-whole}
 use Rattle.wcps_mean.proofs.Scoped.{leaves-on, same-on, reached, with-same}
@@ -84,7 +84,7 @@ eval-returns-in-Err-clause-value g t c h =
     let lo : SFits w32 c.in-Slice.lo = search rules in
     let hi : SFits w32 c.in-Slice.hi = search rules in
     let x = c.in_ok-x-in-Slice.ensures.value h ∙ ap (λ b. outcome_in scope (scalar (only_tree b)) s) c.deref-in-Slice.ensures in
-    position-fault _ _ _ _ _ _ (λ z. outcome_with scope (field_tree c.in-Slice.value.value c.args.field) c.in-Slice.axis z s) c.in-Err.f x (to_z-of_z w32 c.in-Slice.lo lo) (to_z-of_z w32 c.in-Slice.hi hi) c.in-Err.ensures
+    position-fault _ _ _ _ _ _ (λ z. outcome_with scope (field_tree c.in-Slice.value.value c.args.field) c.in-Slice.axis z s) c.in-Err.f x (to_z-of_z w32 c.in-Slice.lo lo) (to_z-of_z w32 c.in-Slice.hi hi) c.in-Err.ensures.tests
     ∙ ap (λ (b : Node). outcome_in scope (field_tree b c.args.field) s) (sym c.in-Slice.is)
 
 pub eval-returns-in_ok-o-in-Ok-clause-value : goal.eval-returns-in_ok-o-in-Ok-clause-value
@@ -99,7 +99,7 @@ eval-returns-in_ok-o-in-Ok-clause-value g t c h =
     c.in_ok-o-in-Ok.ensures.value (before.leaves.intact h)
     ∙ with-same scope _ s _ (field_tree c.deref-in-Ok.result.now c.args.field) c.in-Slice.axis _ _ before.scope before.leaves.cells (to_z-of_z w32 c.in-Ok.z fits)
     ∙ ap (λ b. outcome_with scope (field_tree b c.args.field) c.in-Slice.axis c.in-Ok.z s) c.deref-in-Ok.ensures
-    ∙ position-value _ _ _ _ _ _ (λ z. outcome_with scope (field_tree c.in-Slice.value.value c.args.field) c.in-Slice.axis z s) c.in-Ok.z x (to_z-of_z w32 c.in-Slice.lo lo) (to_z-of_z w32 c.in-Slice.hi hi) (λ go. c.in-Ok.ensures go)
+    ∙ position-value _ _ _ _ _ _ (λ z. outcome_with scope (field_tree c.in-Slice.value.value c.args.field) c.in-Slice.axis z s) c.in-Ok.z x (to_z-of_z w32 c.in-Slice.lo lo) (to_z-of_z w32 c.in-Slice.hi hi) (λ go. c.in-Ok.ensures.tests go)
     ∙ ap (λ (b : Node). outcome_in scope (field_tree b c.args.field) s) (sym c.in-Slice.is)
 
 pub eval-returns-in_ok-o-in-Condense-clause-value : goal.eval-returns-in_ok-o-in-Condense-clause-value

@@ -1,6 +1,6 @@
 -- Whether a tree has a part, it has over all coverages.
 use Rattle.std.proofs.Common.{rules, ◌≡◌, ◌∙◌, ap, sym}
-use Rattle.std.specs.Prelude.{Some, option_map, is_some}
+use Rattle.std.specs.Prelude.{option_map, is_some}
 use Rattle.wcps_types.specs.Typed.{tree_view}
 use Rattle.wcps_types.specs.Renamed.{over}
 use Rattle.wcps_mean.specs.Parts.{part_of}

@@ -1,5 +1,0 @@
-use Rattle.std.proofs.Common.{length}
-use Rattle.wcps_mean.proofs.points.+push_coordinates.Given as goal
-
-abbrev pub decreases-push_coordinates : goal.decreases-push_coordinates
-decreases-push_coordinates l = length l.axes.now
