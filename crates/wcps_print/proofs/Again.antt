@@ -22,7 +22,7 @@ use Rattle.wcps_text.proofs.Ranks.{rank_most, rank_suc, raised}
 use Rattle.wcps_text.proofs.Lexemes.{Written, below_zero}
 use Rattle.wcps_print.specs.Printing.{name_token, int_tokens, unary_token, between_tokens, reduce_token, condense_token, items_tokens, expr_tokens, parts_tokens, subs_tokens, place_tokens, interval_tokens, iters_tokens, condition_tokens, names_tokens, bindings_tokens, item_tokens, query_tokens}
 use Rattle.wcps_print.proofs.Operators.{between as between_same}
-use Rattle.wcps_print.proofs.Written.{Proper, Each, name_as_name, dollar_as_dollar}
+use Rattle.wcps_print.proofs.Proper.{Proper, Each, name_as_name, dollar_as_dollar}
 
 -- what an expression is printed as spells it, before any rest
 pub record Again (e : Tree) : Type 0 where

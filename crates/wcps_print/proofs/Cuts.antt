@@ -11,7 +11,7 @@ use Rattle.wcps_text.specs.Lexing.{begins_name, continues_name, Every, single, d
 use Rattle.wcps_text.proofs.Fronts.{ahead, behind, digit_low, letter_low}
 use Rattle.wcps_text.proofs.Lexemes.{Written, number_text, word_text, sign_text}
 use Rattle.wcps_print.specs.Printing.{bytes_of, text_of}
-use Rattle.wcps_print.proofs.Written.{Each}
+use Rattle.wcps_print.proofs.Proper.{Each}
 
 -- each token reads as itself
 reads_again : (t : Tok) → Written t → Reads (bytes_of t) (Ok t)

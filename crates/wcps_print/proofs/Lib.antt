@@ -1,4 +1,4 @@
-pub mod Written
+pub mod Proper
 pub mod Again
 pub mod Puts
 pub mod Cuts

@@ -6,7 +6,7 @@ use Rattle.wcps_text.specs.Limits.{max_depth, max_forms, deepest, forms}
 use Rattle.wcps_text.specs.Grammar.{IsSpelled}
 use Rattle.wcps_print.specs.Printing.{text_of, query_tokens}
 use Rattle.wcps_print.specs.Printed.{IsTextOf, IsTextWithin}
-use Rattle.wcps_print.proofs.Written.{proper_lexed}
+use Rattle.wcps_print.proofs.Proper.{proper_lexed}
 use Rattle.wcps_print.proofs.Again.{again_query}
 use Rattle.wcps_print.proofs.Cuts.{cut}
 use Rattle.wcps_print.proofs.Forms.{same-forms}
