@@ -5,10 +5,10 @@ usage: bench/nginx.py [SECONDS]
 
 Starts, in a fresh folder and on free ports of this machine, a server that writes, four on copies of its closed file, each
 by deploy/serve, and nginx with a certificate of its own making and a password. It compares replies over TLS, with and
-without the password, from 64 clients at once, and over a run's end; asks 200 jobs by four clients at once, each at the path
-of one server, all four at one path, and at that by address; and then counts for so many seconds (5) how many requests of 16 clients are answered
-where one server reads and where four do. Ends with status 1 where a reply was wrong. It needs nginx (`apt-get install
-nginx`), openssl and curl; `rt run` in crates/rasterd builds the program.
+without the password, with it for another site's page, from 64 clients at once, and over a run's end; asks 200 jobs by four
+clients at once, each at the path of one server, all four at one path, and at that by address; and then counts for so many
+seconds (5) how many requests of 16 clients are answered where one server reads and where four do. Ends with status 1 where
+a reply was wrong. It needs nginx (`apt-get install nginx`), openssl and curl; `rt run` in crates/rasterd builds the program.
 """
 import base64
 import collections
@@ -213,6 +213,7 @@ def main():
                 for found in pool.map(lambda _: ask_again(site, "/ows", SUM), range(256)):
                     same(found, (200, f"{SIDE * SIDE}\n"))
             same(site.ask("/other", LIST)[0], 404)
+            same(site.ask("/edit/ows", LIST, PASSWORD | {"Sec-Fetch-Site": "cross-site"})[0], 403)
             same(jobs(site, ["/1/ows", "/2/ows", "/3/ows", "/4/ows"]), {"right": 200})
             same(jobs(site, ["/2/ows"] * 4), {"right": 200})
             same(jobs(site, ["/job/ows"] * 4), {"right": 200})

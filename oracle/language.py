@@ -1,9 +1,9 @@
 """Tokens, the grammar and its limits, read from their description and not from the server's code."""
 
+import contextlib
 import sys
+import threading
 from dataclasses import dataclass, field
-
-sys.setrecursionlimit(20000)
 
 KEYWORDS = set(
     "for in where return encode csv coverage over values value list condense using and or xor not abs bit true false"
@@ -16,6 +16,33 @@ LEVELS = {"*": 4, "/": 4, "+": 3, "-": 3, "and": 1, "or": 0, "xor": 0} | dict.fr
 )
 MOST_NUMBER = 2**63 - 1
 MOST_NAME, MOST_DEPTH, MOST_FORMS, MOST_HEIGHT = 64, 512, 256, 64
+
+
+# How deep the calls of a reader may go.
+DEPTH_OF_CALLS = 20000
+
+
+class Deep(contextlib.ContextDecorator):
+    """Calls may go as deep as a reader's while anyone is inside, in whatever thread, and as deep as before once nobody is."""
+
+    def __init__(self):
+        self.lock, self.inside, self.before = threading.Lock(), 0, 0
+
+    def __enter__(self):
+        with self.lock:
+            if not self.inside:
+                self.before = sys.getrecursionlimit()
+                sys.setrecursionlimit(max(self.before, DEPTH_OF_CALLS))
+            self.inside += 1
+
+    def __exit__(self, *_):
+        with self.lock:
+            self.inside -= 1
+            if not self.inside:
+                sys.setrecursionlimit(self.before)
+
+
+deep = Deep()
 
 
 class Refused(Exception):
@@ -320,6 +347,7 @@ class Parser:
         return word == "true" if word else self.signed()
 
 
+@deep
 def parsed(text):
     """The query that some bytes spell, or the first refusal."""
     listed = tokens(text)

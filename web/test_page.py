@@ -10,6 +10,7 @@ nginx-light, curl, openssl, chromium, chromium-driver, python3-numpy and python3
 
 import contextlib
 import http.client
+import http.server
 import os
 import random
 import re
@@ -18,6 +19,7 @@ import ssl
 import subprocess
 import sys
 import tempfile
+import threading
 import time
 import unittest
 
@@ -50,7 +52,8 @@ SHOT = (1280, 800)
 PHONE = (390, 844)
 
 # Scripts for the browser: whether the first picture is README's, a place in the answer's picture, the text that is selected,
-# which of some texts are read as queries, a list of what the progress was, and a dot of the first picture.
+# which of some texts are read as queries, a list of what the progress was, a dot of the first picture, and whether an address
+# was asked, whose answer a page of another site is not shown.
 PICTURE = "return document.querySelector('#first canvas')?.height == 480"
 CORNER = """
 const it = document.querySelector('#answer canvas');
@@ -72,6 +75,23 @@ DOT = """
 const context = document.querySelector('#first canvas').getContext('2d');
 return [...context.getImageData(arguments[0], arguments[1], 1, 1).data];
 """
+SENT = """
+const [address, done] = arguments;
+fetch(address, { mode: 'no-cors' }).then(() => done(true), () => done(false));
+"""
+
+
+class Elsewhere(http.server.BaseHTTPRequestHandler):
+    """A page of another site."""
+
+    def do_GET(self):
+        self.send_response(200)
+        self.send_header("Content-Type", "text/html")
+        self.end_headers()
+        self.wfile.write(b"<title>elsewhere</title>")
+
+    def log_message(self, *_):
+        pass
 
 
 def shown(browser, url, script):
@@ -507,6 +527,24 @@ class Page(unittest.TestCase):
         )
         self.assertEqual([dots[0], dots[4]], [20, 250])
 
+    def test_pages_of_other_sites_reach_no_server(self):
+        """They ask to delete a coverage, as the page itself may."""
+        elsewhere = http.server.ThreadingHTTPServer(("127.0.0.1", 0), Elsewhere)
+        self.addCleanup(elsewhere.server_close)
+        self.addCleanup(elsewhere.shutdown)
+        threading.Thread(target=elsewhere.serve_forever, daemon=True).start()
+        session = rasterd.Session(port=self.site.port)
+        session.insert("fleeting", {"x": (0, 9)}, {"v": "u8"})
+        for site, is_there in [
+            (f"http://localhost:{elsewhere.server_port}/", True),
+            (f"http://127.0.0.1:{elsewhere.server_port}/", True),
+            (self.url, False),
+        ]:
+            self.browser.go(site)
+            address = f"{self.url}ows?request=DeleteCoverage&coverage=fleeting"
+            self.assertTrue(self.browser.run_async(SENT, address))
+            self.assertEqual("fleeting" in session.list(), is_there, site)
+
     def test_csv_is_saved(self):
         folder = self.enterContext(tempfile.TemporaryDirectory())
         self.browser.devtools("Browser.setDownloadBehavior", behavior="allow", downloadPath=folder)
@@ -667,10 +705,10 @@ class Deployed(unittest.TestCase):
         user = "user root;\n" if os.geteuid() == 0 else ""
         return f"daemon off;\n{user}" + text.replace("http {\n", "http {\n" + places, 1)
 
-    def got(self, path):
+    def got(self, path, **head):
         """The head and the body of what is at a path."""
         client = http.client.HTTPSConnection("127.0.0.1", self.front, timeout=LONGEST, context=self.context)
-        client.request("GET", path)
+        client.request("GET", path, headers=head)
         reply = client.getresponse()
         found = reply.status, dict(reply.getheaders()), reply.read().decode()
         client.close()
@@ -686,6 +724,15 @@ class Deployed(unittest.TestCase):
         self.assertEqual(self.got("/other")[0], 404)
         jobs = {self.got("/job/ows?request=ListCoverages")[2] for _ in range(20)}
         self.assertEqual(len(jobs), 1)
+
+    def test_pages_of_other_sites_reach_no_server(self):
+        for site, is_foreign in [("cross-site", True), ("same-site", True), ("same-origin", False), ("none", False)]:
+            head = {"Sec-Fetch-Site": site}
+            for path in ("/ows", "/1/ows", "/2/ows", "/3/ows", "/4/ows", "/job/ows"):
+                status = self.got(f"{path}?request=ListCoverages", **head)[0]
+                self.assertEqual(status, 403 if is_foreign else 200, (path, site))
+            self.assertEqual(self.got("/edit/ows?request=ListCoverages", **head)[0], 403 if is_foreign else 401)
+            self.assertEqual(self.got("/", **head)[0], 200)
 
 
 if __name__ == "__main__":

@@ -29,6 +29,9 @@ PLAIN = ",:()"
 # How long a step of a job is to take, in seconds, and the most units of one: the units after these may be far slower.
 STEP, MOST_UNITS = 0.05, 32
 
+# The refusals after which a job is there no more: its answer was a fault, which it has told, or it was gone before.
+GONE = (60, 61, 62, 63, 64, 70)
+
 # What a field type holds, both inclusive; a bool holds false and true.
 RANGES = {
     "u8": (0, 2**8 - 1),
@@ -90,6 +93,21 @@ def flat(values):
             yield from flat(value)
         else:
             yield value
+
+
+def shape_of(values):
+    """The lengths of an array, or of nested sequences, along their axes; a cell has none."""
+    if not isinstance(values, (list, tuple)):
+        return tuple(getattr(values, "shape", ()))
+    shapes = {shape_of(value) for value in values}
+    if len(shapes) > 1:
+        raise ValueError("the cells are given in sequences of unlike lengths")
+    return (len(values), *(shapes.pop() if shapes else ()))
+
+
+def of_several(sizes):
+    """The sizes of the axes that have more than one coordinate: in which order cells stand depends on these alone."""
+    return [size for size in sizes if size != 1]
 
 
 def in_a_row(values):
@@ -223,14 +241,19 @@ class Session:
             self.request("UpdateCoverage", coverage=coverage, field=field, box=box, fill=cell_text(cell))
 
     def write(self, coverage, field, values, box=None, progress=None):
-        """Writes cells in row-major order into a box, or into the whole coverage. What is too long for one request goes in
+        """Writes cells into a box, or into the whole coverage: an array or nested sequences of its shape, in which axes of
+        one coordinate may be left out, or all cells in a row, in row-major order. What is too long for one request goes in
         several, each of whole rows along the first axis or parts of them; `progress` is called with the cells that are
         written and all that there are. Where a request is refused, the parts before it have been written."""
         with self:
             box = box or self.describe(coverage)[0]
+            values = values if hasattr(values, "shape") else list(values)
             cells, points = in_a_row(values), points_of(box)
             if len(cells) != points:
                 raise ValueError(f"the box has {points} cells, and {len(cells)} are given")
+            shape, sizes = shape_of(values), tuple(hi - lo + 1 for lo, hi in box.values())
+            if len(shape) > 1 and of_several(shape) != of_several(sizes):
+                raise ValueError(f"the box has the shape {sizes}, and the cells have {shape}")
             at = 0
             for part in parts_of(box, max(1, MAX_VALUES // (longest_of(cells) + 1))):
                 count = points_of(part)
@@ -297,12 +320,12 @@ class Session:
                 size = units or max(1, min(2 * size, int(size * STEP / took), MOST_UNITS))
                 if progress:
                     progress(whole - left, whole)
+            return self.fetch(job)
         except BaseException as fault:
             if not is_gone(fault):
                 with contextlib.suppress(Refused, OSError, http.client.HTTPException):
                     self.cancel(job)
             raise
-        return self.fetch(job)
 
     def stepped(self, job, left, units):
         """The units that a job has left after a step. Another number than is to come is that of another job: then another
@@ -327,7 +350,7 @@ class Session:
 
 def is_gone(fault):
     """Whether a fault says that a job is there no more, or is another's by now: its number may be given anew."""
-    return isinstance(fault, (NotUnderstood, ConnectionError)) or getattr(fault, "number", None) == 70
+    return isinstance(fault, (NotUnderstood, ConnectionError)) or getattr(fault, "number", None) in GONE
 
 
 def points_of(box):

@@ -18,8 +18,22 @@ def kept(raster, bands, coverage):
         "no-data": any(it["nodata"] is not None for it in found["bands"]),
         "scale and offset": any(it["scale"] is not None or it["offset"] is not None for it in found["bands"]),
         "colour table": any(it["colours"] for it in found["bands"]),
+        "units": any(it["unit"] for it in found["bands"]),
+        "descriptions": any(it["description"] for it in found["bands"]),
+        "metadata": any(set(it["metadata"]) - {"AREA_OR_POINT"} for it in [found, *found["bands"]]),
     }
     return found, [name for name, is_there in dropped.items() if is_there]
+
+
+def otherwise_placed(raster):
+    """By what a raster without a transform is placed; it is not kept. None where there is a transform, or nothing."""
+    ways = {
+        "control points": raster.GetGCPCount(),
+        "RPCs": raster.GetMetadata("RPC"),
+        "arrays of coordinates": raster.GetMetadata("GEOLOCATION"),
+    }
+    found = [way for way, is_there in ways.items() if is_there]
+    return found[0] if found and not raster.GetGeoTransform(can_return_null=True) else None
 
 
 def band_of(band):

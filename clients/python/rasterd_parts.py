@@ -388,10 +388,25 @@ def make(servers, name, domain, fields, patience=PATIENCE):
     raster, made = Raster(name, fields, parts, patience), []
     with undone(made):
         for part in parts:
-            # asked once: a second insertion would be refused where the first was done
-            asked(part, lambda it: it.insert(part.coverage, part.domain, fields), patience=0)
+            insert(part, fields)
             made.append(part)
     return raster
+
+
+def insert(part, fields):
+    """Makes a part of zeros. What fails has a note where the part may be there all the same."""
+    server = part.servers[0]
+    try:
+        # asked once: a second insertion would be refused where the first was done
+        with session(server) as it:
+            it.insert(part.coverage, part.domain, fields)
+    except BaseException as fault:
+        is_silent = isinstance(fault, (OSError, http.client.HTTPException, rasterd.NotUnderstood))
+        told = NoAnswer(f"no answer from {server}, which was to have {part}: {fault!r}") if is_silent else fault
+        if not isinstance(fault, (rasterd.Refused, ConnectionRefusedError)):
+            # taken away blindly it might be another client's of the same name
+            told.add_note(f"{part} may have been made at {server}")
+        raise told
 
 
 @contextlib.contextmanager

@@ -15,6 +15,7 @@ import itertools
 import os
 import re
 import sys
+import urllib.parse
 
 HERE = os.path.dirname(os.path.abspath(__file__))
 READING = ["language", "meaning", "machine"]
@@ -157,6 +158,7 @@ class Pointing(language.Parser):
         return self.text[slice(*self.spans[at])] if 0 <= at < len(self.spans) else ""
 
 
+@language.deep
 def misspelled(text):
     """Where a text goes wrong, or None where it spells a query."""
     found, bad = spans(text)
@@ -309,11 +311,80 @@ def bad_key(pairs):
     return None
 
 
-# Types
+class Wanting(machine.Machine):
+    """The machine, which keeps the key that it wants and does not find."""
+
+    wanted = "`fill` or `values`"
+
+    def key(self, key, read, absent=12):
+        if not self.values(key):
+            self.wanted = f"`{key}`"
+        return super().key(key, read, absent)
+
+
+def missing_key(pairs):
+    """The first key that a request needs and has not."""
+    asked = Wanting()
+    asked.reply(urllib.parse.urlencode(pairs).encode())
+    return f"{pairs['request']} needs {asked.wanted}"
+
+
+# Updates and templates
 
 
 def box_text(axes):
     return ",".join(f"{name}({lo}:{hi})" for name, lo, hi in axes) or "none"
+
+
+def names(found):
+    return ", ".join(str(it) for it in found) or "none"
+
+
+def outside(pairs, describe):
+    """Inside which box an update has to lie."""
+    axes = box_text(coverage_of(*describe(pairs["coverage"])).axes)
+    return f"the box has to name the axes in this order, and to lie inside: {axes}"
+
+
+def other_count(pairs):
+    """How many cells an update has, and how many it is to have."""
+    points = meaning.count(list(map(machine.interval_in, pairs["box"].split(","))))
+    return f"`values` has {pairs['values'].count(',') + 1:,} cells, and the box {points:,} points"
+
+
+def out_of_range(pairs, describe):
+    """The first cell of an update that its field does not hold, and what that holds."""
+    field = pairs["field"]
+    kind = describe(pairs["coverage"])[1][field]
+    cells = str(pairs.get("fill", pairs.get("values"))).split(",")
+    cell = next(it for it in cells if not machine.holds(kind, machine.cell_in(it)))
+    ends = machine.RANGES[kind]
+    holds = f"whole numbers from {ends[0]} to {ends[1]}" if ends else "`true` and `false` alone"
+    return f"`{cell}` is no cell of `{field}`: it is {kind}, and takes {holds}"
+
+
+def bad_parameter(pairs, describe):
+    """What a template does not find in its layers or in its radius."""
+    template, domains = pairs["template"], []
+    is_focal = template.startswith("Focal")
+    for key in ["layer"] if is_focal else ["layer", "second"]:
+        if key not in pairs:
+            return f"{template} takes another layer: give `{key}`"
+        name, _, field = pairs[key].partition(".")
+        axes, fields = describe(name)
+        if field and field not in fields:
+            return f"`{key}`: `{name}` has no field `{field}`; there are {names(fields)}"
+        if not field and len(fields) > 1:
+            return f"`{key}`: `{name}` has several fields: select one, as `{name}.{next(iter(fields))}`"
+        domains.append(box_text(coverage_of(axes, fields).axes))
+    if not is_focal:
+        return f"the domains differ: {' and '.join(domains)}"
+    if not 1 <= int(pairs.get("radius", 0)) <= machine.MOST_RADIUS:
+        return f"{template} takes a `radius`, 1 to {machine.MOST_RADIUS}"
+    return f"{template} takes a layer on two axes, and `{name}` has {domains[0]}"
+
+
+# Types
 
 
 class Placing(meaning.Typing):
@@ -338,10 +409,6 @@ class Placing(meaning.Typing):
         return found
 
 
-def names(found):
-    return ", ".join(str(it) for it in found) or "none"
-
-
 def field_names(parts):
     return names(name or "one without a name" for it in parts[:1] for name, _ in it.fields)
 
@@ -349,6 +416,24 @@ def field_names(parts):
 def first_of_several(parts):
     """The first field of a part that has several."""
     return next((it.fields[0][0] for it in parts if len(it.fields) > 1), "f")
+
+
+def intervals_of(e):
+    """The intervals of an expression that are written as two numbers: the axis and these."""
+    if e.form == "bracket":
+        return [(axis, *what) for axis, kind, what in e.data if kind == "bounds"]
+    over = e.data[1] if e.form == "condense" else e.data[0]
+    return [(axis, lo, hi) for _, axis, (kind, lo, hi) in over if kind == "bounds"]
+
+
+def bad_interval(e):
+    """The interval of an expression that is none; or that its box is too large."""
+    for axis, lo, hi in intervals_of(e):
+        if lo > hi:
+            return f"a lower bound stands above its upper one, in {axis}({lo}:{hi})"
+        if not (meaning.fits(lo) and meaning.fits(hi)):
+            return f"a bound is outside of {-meaning.MOST_BOUND - 1} to {meaning.MOST_BOUND}, in {axis}({lo}:{hi})"
+    return f"it has more than {meaning.MOST_AXES} iterators, or its box more than {meaning.MOST_POINTS:,} points"
 
 
 # What is said of a part that was refused: by the part, the types of its parts, and what is bound there.
@@ -366,8 +451,7 @@ SAID = {
     50: lambda e, parts, bound: f"it has several fields: select one, as `.{first_of_several(parts)}`",
     51: lambda e, parts, bound: f"it has {len(e.data[1])} items, and its box another number of points",
     52: lambda e, parts, bound: "it has axes: write encode(.., csv) around it",
-    53: lambda e, parts, bound: "a lower bound stands above its upper one, or the box has more than"
-    f" {meaning.MOST_AXES} axes or {meaning.MOST_POINTS:,} points",
+    53: lambda e, parts, bound: bad_interval(e),
 }
 
 
@@ -408,40 +492,59 @@ ADVICE = {
     3: "the path is /ows, or what a proxy makes of it",
     11: "requests are InsertCoverage, UpdateCoverage, DeleteCoverage, ListCoverages, DescribeCoverage, ProcessCoverages,"
     " SubmitQuery, StepJob, FetchJob, CancelJob, ExpandTemplate, ProcessTemplate",
+    13: "a key is given twice, perhaps in another case of its letters",
     20: "ListCoverages tells the names, which are case-sensitive",
+    21: "take another name, or delete the old coverage",
     22: f"a coverage has 1 to {meaning.MOST_AXES} axes, each named once, bounds of 32 bits with the lower one first,"
     f" and at most {meaning.MOST_POINTS:,} points: rasterd-load --parts cuts a larger raster",
     23: f"a coverage has 1 to {machine.MOST_FIELDS} fields, each named once",
+    27: f"{machine.MOST_COVERAGES:,} coverages are held: delete one",
+    # of a template: what is said of a query stands above
+    45: "the layers have unlike domains: ask for a box that is in both, in a query of your own",
+    49: "a layer is Boolean: a focal and a zonal template take numbers",
     54: "ask what is the same for all cells first, as avg(c), and write the number into the query; or ask for a smaller box:"
     " zonal, stretch and histogram of rasterd_algebra do so",
     55: f"ask for parts of at most {meaning.MOST_CELLS:,} cells, as c[y(0:99)]",
+    56: f"the `for` list has more than {meaning.MOST_COMBINATIONS} combinations of coverages: ask for some of them at a time",
     60: "a number leaves 64 bits",
     61: "exclude the zeros: `c / (d + (d = 0))`, or condense `where d != 0`",
     62: "`and` asks both sides: put the test into the `where` of a condense, or trim first",
-    63: "`max`, `min` and `avg` of no points; ask count(..) first, or leave empty zones out",
+    63: "a `condense` of `max` or `min` had no points, as its `where` was true nowhere: ask count(..) first, or leave empty"
+    " zones out",
     64: "a bit's place is within 0 to 63",
     70: "jobs end with the run of their server, and are known to that server alone",
+    71: "the job has units left: step it until none are",
+    72: f"{machine.MOST_JOBS} jobs are held, those without units left included: fetch or cancel some",
     80: "templates are LocalSum, LocalDifference, LocalProduct, LocalMaximum, LocalMinimum, FocalSum, FocalMaximum,"
     " FocalMinimum, ZonalSum, ZonalMaximum, ZonalMinimum",
+    90: "the server found no memory for it: ask for less at once",
+    91: "the system refused a read or a write of the file: see to the disk, or make room on it",
+    92: "the file has too few free blocks: delete coverages, or finish or cancel jobs, which hold blocks",
+    93: "bytes of the file are damaged: go back to a copy",
+}
+
+# What is said of a request, by its pairs and by what gives the axes and the fields of a coverage.
+TOLD = {
+    12: lambda pairs, describe: missing_key(pairs),
+    14: lambda pairs, describe: bad_key(pairs),
+    24: outside,
+    25: lambda pairs, describe: other_count(pairs),
+    26: out_of_range,
+    42: lambda pairs, describe: f"the fields are {names(describe(pairs['coverage'])[1])}",
+    81: bad_parameter,
 }
 
 
+@language.deep
 def reason(number, pairs, describe):
     """What to change in a request that was refused by a number; None where nothing is known. `describe` gives the axes and
     the fields of a coverage."""
     text = str(pairs.get("query", ""))
     if 30 <= number <= 33:
         return misspelled(text)
-    if number == 14:
-        return bad_key(pairs)
     if number in SAID and text:
         return mistyped(number, text, describe)
-    if number == 42:
-        return f"the fields are {names(describe(pairs['coverage'])[1])}"
-    if number == 24:
-        axes = box_text(coverage_of(*describe(pairs["coverage"])).axes)
-        return f"the box has to name the axes in this order, and to lie inside: {axes}"
-    return ADVICE.get(number)
+    return TOLD[number](pairs, describe) if number in TOLD else ADVICE.get(number)
 
 
 if __name__ == "__main__":

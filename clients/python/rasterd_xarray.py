@@ -132,12 +132,36 @@ def reduce(url, fold, field, patience=rasterd_parts.PATIENCE):
 # Writing
 
 
+def is_counted(coordinate):
+    """Whether coordinates are whole numbers that follow one another, as a coverage has them."""
+    values = numpy.asarray(coordinate)
+    return values.dtype.kind in "iu" and bool((numpy.diff(values.astype("int64")) == 1).all())
+
+
 def bounds(coordinate, size):
-    """The bounds of an axis: those of its coordinates where these are whole numbers that follow one another."""
-    values = None if coordinate is None else numpy.asarray(coordinate)
-    is_counted = values is not None and values.dtype.kind in "iu" and (numpy.diff(values.astype("int64")) == 1).all()
-    first = int(values[0]) if is_counted else 0
+    """The bounds of an axis: those of its coordinates where a coverage has such, else from 0 on."""
+    first = int(coordinate[0]) if coordinate is not None and is_counted(coordinate) else 0
     return first, first + size - 1
+
+
+def refuse_marks(name, variable):
+    """Refuses a variable of whose numbers some stand for no data, or all are scaled: a coverage has the numbers alone."""
+    # what was decoded has its mark in the encoding, and its scale no more
+    known = variable.encoding | variable.attrs
+    marks = [it for it in ("_FillValue", "missing_value") if known.get(it) is not None]
+    if marks:
+        raise ValueError(
+            f"cells of {name} may stand for no data, as its {' and '.join(marks)} says, and a coverage has no such mark: put a"
+            " Boolean variable beside it that says which cells hold data, and take this out of its attrs and encoding"
+        )
+    # what rioxarray says of numbers that are not scaled
+    plain = {"scale_factor": 1, "add_offset": 0}
+    scales = [it for it in plain if numpy.any(variable.attrs.get(it, plain[it]) != plain[it])]
+    if scales:
+        raise ValueError(
+            f"the numbers of {name} are scaled, as its {' and '.join(scales)} says, and a coverage keeps the numbers alone:"
+            " scale and round them, or take this out of its attrs"
+        )
 
 
 def field_types(dataset):
@@ -148,13 +172,15 @@ def field_types(dataset):
             raise TypeError(f"no field type holds {name}, which is of {it.dtype.name}: scale and round it first")
         if it.dims != next(iter(dataset.data_vars.values())).dims:
             raise ValueError(f"{name} has the axes {it.dims}, and a coverage has the same for all its fields")
+        refuse_marks(name, it)
         kinds[name] = FIELDS[it.dtype.name]
     return kinds
 
 
 def to_rasterd(data, url, patience=rasterd_parts.PATIENCE):
-    """Makes a coverage of a dataset, or of an array, cut over the servers of the URL; gives the raster. Where
-    writing fails its parts are deleted, and a note on the exception says which could not be."""
+    """Makes a coverage of a dataset, or of an array, cut over the servers of the URL; gives the raster. A warning names the
+    coordinates that a coverage does not keep. Where writing fails its parts are deleted, and a note on the exception says
+    which could not be, and which may be there."""
     if isinstance(data, xarray.DataArray):
         # an array of dask lends its array a name that no field may have
         data = data.to_dataset(name=data.name if str(data.name).isidentifier() and data.name else "v")
@@ -162,6 +188,9 @@ def to_rasterd(data, url, patience=rasterd_parts.PATIENCE):
     fields = field_types(data)
     first = next(iter(data.data_vars.values()))
     domain = {axis: bounds(first.coords.get(axis), size) for axis, size in zip(first.dims, first.shape)}
+    lost = [str(it) for it in data.coords if it not in domain or not is_counted(data.coords[it])]
+    if lost:
+        rasterd_parts.tell(f"{name} does not keep the coordinates {', '.join(lost)}; an axis without any begins at 0")
     raster = rasterd_parts.make(servers, name, domain, fields, patience)
     with rasterd_parts.undone(raster.parts):
         dask.compute(*(task for field in fields for task in writes(raster, field, data[field].data)))

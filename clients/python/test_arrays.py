@@ -13,6 +13,7 @@ import json
 import logging
 import os
 import shutil
+import socket
 import subprocess
 import sys
 import tempfile
@@ -174,6 +175,49 @@ class OneServer(unittest.TestCase):
         with self.assertRaisesRegex(ValueError, "host:port"):
             xarray.open_dataset("rasterd:terrain", engine="rasterd")
 
+    def test_cells_that_stand_for_no_data_or_are_scaled(self):
+        plain, name = self.data.v, "_FillValue"
+        read = plain.copy()
+        read.encoding[name] = -32768
+        marked, missing = plain.assign_attrs({name: -32768}), plain.assign_attrs(missing_value=0)
+        for data, told in [
+            (marked, "cells of v may stand for no data, as its _FillValue says, .*: put a Boolean variable beside it"),
+            (missing, "as its missing_value says"),
+            (read, "as its _FillValue says"),
+            (marked.to_dataset().assign(other=plain), "cells of v may stand for no data"),
+            (plain.assign_attrs(scale_factor=0.01), "the numbers of v are scaled, as its scale_factor says"),
+            (
+                plain.assign_attrs(scale_factor=2, add_offset=numpy.float32(3)),
+                "as its scale_factor and add_offset says",
+            ),
+            (plain.assign_attrs(scale_factor=numpy.array([1.0, 2.0])), "as its scale_factor says"),
+        ]:
+            with self.assertRaisesRegex(ValueError, told):
+                rasterd_xarray.to_rasterd(data, self.url)
+        with rasterd.Session(port=self.port) as session:
+            self.assertEqual(session.list(), [])
+        # as rioxarray has them, and as xarray says that nothing is marked
+        plain = plain.assign_attrs(scale_factor=1.0, add_offset=0.0)
+        plain.encoding[name] = None
+        rasterd_xarray.to_rasterd(plain, self.url)
+        xarray.testing.assert_equal(xarray.open_dataset(self.url, engine="rasterd").v, self.data.v)
+
+    def test_coordinates_that_are_not_kept_are_told(self):
+        axes = {"t": [2000, 2005, 2010], "y": [7, 8], "x": [0.5, 1.5], "place": "here"}
+        data = xarray.DataArray(numpy.arange(12).reshape(3, 2, 2), axes, ("t", "y", "x"), "v")
+        with self.assertWarnsRegex(
+            UserWarning, "^terrain does not keep the coordinates t, x, place; an axis without any"
+        ):
+            rasterd_xarray.to_rasterd(data, self.url)
+        with rasterd.Session(port=self.port) as session:
+            self.assertEqual(session.describe("terrain")[0], {"t": (0, 2), "y": (7, 8), "x": (0, 1)})
+            session.delete("terrain")
+        with warnings.catch_warnings():
+            warnings.simplefilter("error")
+            rasterd_xarray.to_rasterd(data.drop_vars(["t", "x", "place"]), self.url)
+        found = xarray.open_dataset(self.url, engine="rasterd").v
+        numpy.testing.assert_array_equal(found.sel(y=8), data[:, 1])
+
     def test_a_failed_write_leaves_nothing(self):
         def broken(block):
             raise RuntimeError("no block")
@@ -207,6 +251,36 @@ class OneServer(unittest.TestCase):
             rasterd_xarray.to_rasterd(self.data.v, url)
         with rasterd.Session(port=self.port) as session:
             self.assertEqual(session.list(), [])
+
+    def test_a_part_whose_insertion_got_no_reply_is_noted(self):
+        """The second server does it, and goes away before it replies; the third one never was there."""
+        cut_short = f"127.0.0.1:{self.behind_a_cut()}"
+        with self.assertRaisesRegex(rasterd_parts.NoAnswer, f"no answer from {cut_short}") as raised:
+            rasterd_xarray.to_rasterd(self.data.v, f"{self.url.replace('/terrain', '')},{cut_short}/terrain")
+        (note,) = raised.exception.__notes__
+        self.assertRegex(note, rf"^terrain_\d_\d with y\(\S+\),x\(\S+\) may have been made at {cut_short}$")
+        with rasterd.Session(port=self.port) as session:
+            self.assertEqual(session.list(), [note.split()[0]])
+            session.delete(note.split()[0])
+        with self.assertRaisesRegex(rasterd_parts.NoAnswer, "no answer from 127.0.0.1:1,") as raised:
+            rasterd_xarray.to_rasterd(self.data.v, "rasterd://127.0.0.1:1/terrain")
+        self.assertEqual(getattr(raised.exception, "__notes__", []), [])
+
+    def behind_a_cut(self):
+        """The port of a way to the server that ends before the reply to an insertion comes."""
+        listener = socket.create_server(("127.0.0.1", 0))
+        self.addCleanup(listener.close)
+
+        def forward():
+            with listener.accept()[0] as client, socket.create_connection(("127.0.0.1", self.port), LONGEST) as server:
+                said = b""
+                while b"fields=v" not in said:
+                    said += client.recv(65536)
+                server.sendall(said)
+                server.recv(65536)
+
+        threading.Thread(target=forward, daemon=True).start()
+        return listener.getsockname()[1]
 
     def test_coordinates_of_a_place(self):
         rasterd_xarray.to_rasterd(self.data.v, self.url)

@@ -8,6 +8,7 @@ It needs Debian's packages python3-numpy and python3-gdal, and says so where one
 
 import json
 import os
+import signal
 import subprocess
 import sys
 import tempfile
@@ -25,7 +26,7 @@ except ImportError as missing:
 HERE = os.path.dirname(os.path.abspath(__file__))
 sys.path[:0] = [HERE, f"{HERE}/../../scripts"]
 import rasterd
-from served import connected, free_port, served
+from served import LONGEST, connected, free_port, served
 
 PROGRAM = os.path.abspath(sys.argv.pop(1)) if len(sys.argv) > 1 else sys.exit(__doc__)
 WKT = """PROJCS["WGS 84 / UTM zone 32N",GEOGCS["WGS 84",DATUM["WGS_1984",SPHEROID["WGS 84",6378137,298.257223563]],
@@ -57,8 +58,14 @@ class Tiles(unittest.TestCase):
             session.insert("rain", {"t": (1, 3), "y": (0, 9), "x": (0, 19)}, {"mm": "u8"})
             session.write("rain", "mm", numpy.arange(600) % 256)
             session.insert("line", {"x": (0, 9)}, {"v": "u8"})
+            for name in ("large_1_2", "own_1_2"):
+                session.insert(name, {"y": (4096, 4105), "x": (8192, 8211)}, {"v": "u8"})
+                session.write(name, "v", numpy.arange(200))
         with open(f"{cls.folder}/land.json", "w", encoding="utf-8") as file:
             json.dump({"transform": [500000.0, 20.0, 0.0, 5400000.0, 0.0, -20.0], "wkt": WKT}, file)
+        for name, left in [("large", 500000.0), ("own", 0.0), ("own_1_2", 300000.0)]:
+            with open(f"{cls.folder}/{name}.json", "w", encoding="utf-8") as file:
+                json.dump({"transform": [left, 20.0, 0.0, 5400000.0, 0.0, -20.0], "wkt": WKT}, file)
         cls.front = free_port()
         words = ["--listen", str(cls.front), "--port", str(cls.port), "--geo", cls.folder]
         gateway = subprocess.Popen([sys.executable, f"{HERE}/rasterd-tiles", *words])
@@ -92,6 +99,13 @@ class Tiles(unittest.TestCase):
         self.assertIn("UTM zone 32N", raster.GetProjection())
         self.assertEqual(self.opened("rain/mm.vrt").GetGeoTransform(), (0.0, 1.0, 0.0, 0.0, 0.0, -1.0))
 
+    def test_a_part_lies_where_the_whole_raster_says(self):
+        for name, left in [("large_1_2", 500000 + 8192 * 20), ("own_1_2", 300000 + 8192 * 20)]:
+            raster = self.opened(f"{name}/v.vrt")
+            self.assertEqual(raster.GetGeoTransform(), (left, 20.0, 0.0, 5400000 - 4096 * 20, 0.0, -20.0))
+            self.assertIn("UTM zone 32N", raster.GetProjection())
+            numpy.testing.assert_array_equal(raster.ReadAsArray(), numpy.arange(200).reshape(10, 20))
+
     def test_gdal_translate(self):
         path = f"{self.folder}/made.tif"
         gdal.Translate(path, self.opened("land/height.vrt"))
@@ -121,18 +135,32 @@ class Tiles(unittest.TestCase):
 
 
 class Away(unittest.TestCase):
-    def test_a_server_that_is_away_is_named(self):
-        front, port = free_port(), free_port()
-        gateway = subprocess.Popen(
-            [sys.executable, f"{HERE}/rasterd-tiles", "--listen", str(front), "--port", str(port)]
-        )
-        self.addCleanup(gateway.wait)
-        self.addCleanup(gateway.kill)
-        connected(front, gateway).close()
+    def setUp(self):
+        # who starts the tests may have the signal ignored, and what is ignored stays so in a program that is started
+        self.addCleanup(signal.signal, signal.SIGINT, signal.signal(signal.SIGINT, signal.default_int_handler))
+        self.front, self.port = free_port(), free_port()
+        words = ["--listen", str(self.front), "--port", str(self.port)]
+        self.gateway = subprocess.Popen([sys.executable, f"{HERE}/rasterd-tiles", *words], stderr=subprocess.PIPE)
+        self.addCleanup(self.gateway.communicate)
+        self.addCleanup(self.gateway.kill)
+        connected(self.front, self.gateway).close()
+
+    def refused(self, path):
+        """The status and the text of a refusal."""
         with self.assertRaises(urllib.error.HTTPError) as raised:
-            urllib.request.urlopen(f"http://127.0.0.1:{front}/land/kind.vrt")
-        self.assertEqual(raised.exception.code, 502)
-        self.assertIn(f"no answer from 127.0.0.1:{port}", raised.exception.read().decode())
+            urllib.request.urlopen(f"http://127.0.0.1:{self.front}/{path}")
+        return raised.exception.code, raised.exception.read().decode()
+
+    def test_a_server_that_is_away_is_named(self):
+        status, told = self.refused("land/kind.vrt")
+        self.assertEqual(status, 502)
+        self.assertIn(f"no answer from 127.0.0.1:{self.port}", told)
+
+    def test_ctrl_c_ends_it_without_a_word(self):
+        self.assertEqual(self.refused(""), (404, "no such layer or tile\n"))
+        self.gateway.send_signal(signal.SIGINT)
+        self.assertEqual(self.gateway.communicate(timeout=LONGEST), (None, b""))
+        self.assertEqual(self.gateway.returncode, 0)
 
 
 if __name__ == "__main__":

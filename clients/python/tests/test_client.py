@@ -59,6 +59,33 @@ class Requests(OverLoopback):
             session.write("w", "v", [3.0, 4])
             self.assertEqual(session.query("for c in (w) return encode(c, csv)"), "3,4\n")
 
+    def test_cells_of_another_shape_are_not_written(self):
+        box = {"t": (5, 5), "y": (0, 1), "x": (0, 2)}
+        with self.session() as session:
+            session.insert("w", {"t": (5, 6), "y": (0, 1), "x": (0, 2)}, {"v": "i16"})
+            for values, told in [
+                ([[1, 2], [3, 4], [5, 6]], r"the box has the shape \(1, 2, 3\), and the cells have \(3, 2\)"),
+                (([1, 2], [3, 4], [5, 6]), r"the cells have \(3, 2\)"),
+                ([[[1, 2, 3]], [[4, 5, 6]], []], "sequences of unlike lengths"),
+                ([[1, 2, 3, 4], [5, 6]], "sequences of unlike lengths"),
+                ([1, [2, 3, 4, 5, 6]], "sequences of unlike lengths"),
+                ([[1, 2, 3], [4, 5]], "the box has 6 cells, and 5 are given"),
+            ]:
+                with self.subTest(values=values), self.assertRaisesRegex(ValueError, told):
+                    session.write("w", "v", values, box)
+            self.assertEqual(session.query("for c in (w) return max(c)"), "0\n")
+            for first, values in [
+                (1, [1, 2, 3, 4, 5, 6]),
+                (7, [[7, 8, 9], [10, 11, 12]]),
+                (13, [[[13, 14, 15], [16, 17, 18]]]),
+                (19, [[[19], [20], [21]], [[22], [23], [24]]]),
+                (25, (k for k in range(25, 31))),
+                (31, ([k, k + 1, k + 2] for k in (31, 34))),
+            ]:
+                session.write("w", "v", values, box)
+                rows = "".join(f"{k},{k + 1},{k + 2}\n" for k in (first, first + 3))
+                self.assertEqual(session.query("for c in (w) return encode(c[t(5)], csv)"), rows)
+
     def test_templates(self):
         with self.session() as session:
             for name, cells in [("w", [1, 2, 3, 4]), ("z", [1, 1, 2, 2])]:
@@ -130,6 +157,32 @@ class Jobs(OverLoopback):
             with self.assertRaises(KeyboardInterrupt):
                 session.run("for c in (w) return encode(c, csv)", units=1, progress=stop)
             self.assert_refused(70, lambda: session.cancel(1))
+
+    def test_a_job_whose_answer_is_refused_is_cancelled(self):
+        """Want of memory leaves a job where it is."""
+        session = self.session()
+        session.insert("w", {"x": (0, 9)}, {"v": "i16"})
+
+        def fetch(job):
+            raise rasterd.Refused(90, "NoMemory", 503)
+
+        session.fetch = fetch
+        self.assert_refused(90, lambda: session.run("for c in (w) return max(c)", progress=None))
+        self.assert_refused(70, lambda: session.step(1))
+
+    def test_a_job_whose_answer_is_a_fault_is_not_cancelled_by_its_number(self):
+        session, cancelled = self.session(), []
+        session.insert("w", {"x": (0, 9)}, {"v": "i16"})
+        session.cancel = cancelled.append
+        for number, query in [
+            (60, "for c in (w) return max(c) - 9223372036854775807 - 2"),
+            (61, "for c in (w) return max(1 / c)"),
+            (62, "for c in (w) return c[x(10)]"),
+            (63, "for c in (w) return condense max over $x x(0:9) where false using $x"),
+            (64, "for c in (w) return bit(max(c), 64)"),
+        ]:
+            self.assert_refused(number, lambda: session.run(query, progress=None))
+        self.assertEqual(cancelled, [])
 
     def test_a_job_that_is_another_one_is_not_answered_and_not_ended(self):
         other = self.session()
@@ -295,6 +348,8 @@ class Shell(OverLoopback):
             (["\\template LocalSum hill hill"], "2,4,6\n8,10,12\n"),
             (["for c in (hill) return c", "\\d"], "refused 52 MustEncode: 1:24: `c`: it has axes: write"),
             (["\\q", "\\d"], ""),
+            (["\\template FocalSum"], "\\template NAME LAYER [SECOND or RADIUS]      a template of map algebra\n"),
+            (["\\template FocalSum hill 1 1", "\\d"], "\\template NAME LAYER [SECOND or RADIUS]"),
             (["\\csv none.csv"], "there is no answer yet\n"),
             (["\\?"], "Beside queries there are"),
         ]:

@@ -1,10 +1,13 @@
 """Each mistake that people make is told in a way that names what to change."""
 
 import collections
+import os
 import random
 import re
+import subprocess
+import sys
 
-from over_loopback import TOP, OverLoopback, rasterd
+from over_loopback import CLIENTS, TOP, OverLoopback, rasterd
 import rasterd_why
 
 MUTATED = 400
@@ -65,11 +68,36 @@ TEXTS = [
     ("for c in (hill) where {a: true; b: true} return 1", "1:23: `{a: true; b: true}`: it has several fields"),
     ("for c in (hill) return encode(coverage m over $i a(0:2) value list <1; 2>, csv)", "it has 2 items"),
     ("for c in (hill) return (c + 1) * 2", "1:24: `(c + 1) * 2`: it has axes: write encode(.., csv) around it"),
-    ("for c in (hill) return encode(c[y(2:1)], csv)", "1:31: `c[y(2:1)]`: a lower bound stands above its upper one"),
+    (
+        "for c in (hill) return encode(c[y(2:1)], csv)",
+        "1:31: `c[y(2:1)]`: a lower bound stands above its upper one, in y(2:1)",
+    ),
+    (
+        "for c in (hill) return encode(c[x(0:1), y(0:3000000000)], csv)",
+        "`c[x(0:1), y(0:3000000000)]`: a bound is outside of -2147483648 to 2147483647, in y(0:3000000000)",
+    ),
+    (
+        "for c in (hill) return condense + over $i y(0:2), $j x(-2147483649:0) using 1",
+        "a bound is outside of -2147483648 to 2147483647, in x(-2147483649:0)",
+    ),
+    ("for c in (hill) return encode(coverage m over $i a(5:4) value list <1>, csv)", "its upper one, in a(5:4)"),
+    (
+        "for c in (hill) return encode(coverage m over $i a(0:4096), $j b(0:4096) values 1, csv)",
+        "it has more than 6 iterators, or its box more than 16,777,216 points",
+    ),
     ("for c in (hill) where c return 1", "1:23: `c`: a value with axes stands where a scalar must"),
     ("for c in (hill) where max(c) return 1", "1:23: `max(c)`: a number stands where a Boolean must"),
     ("for c in (hill) return max(c / 0)", "61 DivideByZero: exclude the zeros"),
     ("for c in (hill) return c[y(3), x(0)]", "62 OutOfDomain: `and` asks both sides"),
+    (
+        "for c in (hill) return condense max over $i y(0:2) where false using $i",
+        "63 EmptyCondense: a `condense` of `max` or `min` had no points, as its `where` was true nowhere",
+    ),
+    (
+        "for a in (hill, flat), b in (hill, flat), c in (hill, flat), d in (hill, flat), e in (hill, flat),"
+        " f in (hill, flat), g in (hill, flat) return 1",
+        "56 TooManyCombinations: the `for` list has more than 64 combinations of coverages: ask for some of them",
+    ),
 ]
 
 # Pairs of a request that is refused, and what the client says of it.
@@ -140,6 +168,78 @@ REQUESTS = [
     ("ProcessTemplate", dict(template="LocalSum", layer="hill.v.w"), "`layer`: `hill.v.w` is neither"),
     ("ProcessTemplate", dict(template="Slope", layer="hill"), "80 NoSuchTemplate: templates are LocalSum"),
     ("GetCapabilities", {}, "11 UnknownRequest: requests are InsertCoverage"),
+    ("InsertCoverage", dict(coverage="a", fields="v:i16"), "12 MissingKey: InsertCoverage needs `domain`"),
+    (
+        "UpdateCoverage",
+        dict(coverage="hill", field="v", box="y(0:0),x(0:1)"),
+        "12 MissingKey: UpdateCoverage needs `fill` or `values`",
+    ),
+    ("ProcessCoverages", dict(text="for c in (hill) return 1"), "12 MissingKey: ProcessCoverages needs `query`"),
+    ("StepJob", dict(job="1"), "12 MissingKey: StepJob needs `units`"),
+    ("ProcessTemplate", dict(layer="hill"), "12 MissingKey: ProcessTemplate needs `template`"),
+    ("DescribeCoverage", dict(coverage="hill", Coverage="land"), "13 RepeatedKey: a key is given twice, perhaps in"),
+    (
+        "InsertCoverage",
+        dict(coverage="hill", domain="x(0:9)", fields="v:i16"),
+        "21 CoverageExists: take another name, or delete the old coverage",
+    ),
+    (
+        "UpdateCoverage",
+        dict(coverage="hill", field="v", box="y(0:0),x(0:1)", values="1,2,3"),
+        "25 ValueCount: `values` has 3 cells, and the box 2 points",
+    ),
+    (
+        "UpdateCoverage",
+        dict(coverage="hill", field="v", box="y(0:0),x(0:1)", values="32767,32768"),
+        "26 ValueRange: `32768` is no cell of `v`: it is i16, and takes whole numbers from -32768 to 32767",
+    ),
+    (
+        "UpdateCoverage",
+        dict(coverage="land", field="kind", box="y(0:0),x(0:1)", fill="true"),
+        "26 ValueRange: `true` is no cell of `kind`: it is u8, and takes whole numbers from 0 to 255",
+    ),
+    (
+        "UpdateCoverage",
+        dict(coverage="land", field="wet", box="y(0:0),x(0:1)", fill="1"),
+        "26 ValueRange: `1` is no cell of `wet`: it is bool, and takes `true` and `false` alone",
+    ),
+    ("ProcessTemplate", dict(template="LocalSum", layer="hill"), "81 BadParameter: LocalSum takes another layer: give"),
+    (
+        "ProcessTemplate",
+        dict(template="ZonalSum", layer="hill", second="land"),
+        "81 BadParameter: `second`: `land` has several fields: select one, as `land.kind`",
+    ),
+    (
+        "ExpandTemplate",
+        dict(template="LocalSum", layer="hill.w", second="land.kind"),
+        "81 BadParameter: `layer`: `hill` has no field `w`; there are v",
+    ),
+    ("ProcessTemplate", dict(template="FocalSum", layer="hill"), "81 BadParameter: FocalSum takes a `radius`, 1 to 8"),
+    (
+        "ProcessTemplate",
+        dict(template="FocalSum", layer="hill", radius="9"),
+        "81 BadParameter: FocalSum takes a `radius`, 1 to 8",
+    ),
+    (
+        "ProcessTemplate",
+        dict(template="FocalSum", layer="line", radius="1"),
+        "81 BadParameter: FocalSum takes a layer on two axes, and `line` has x(0:9)",
+    ),
+    (
+        "ProcessTemplate",
+        dict(template="ZonalSum", layer="hill", second="line"),
+        "81 BadParameter: the domains differ: y(0:2),x(0:3) and x(0:9)",
+    ),
+    (
+        "ProcessTemplate",
+        dict(template="LocalSum", layer="hill", second="line"),
+        "45 DomainMismatch: the layers have unlike domains",
+    ),
+    (
+        "ProcessTemplate",
+        dict(template="FocalSum", layer="land.wet", radius="1"),
+        "49 NeedsInteger: a layer is Boolean: a focal and a zonal template take numbers",
+    ),
 ]
 
 
@@ -151,6 +251,7 @@ class Mistakes(OverLoopback):
             session.insert("land", {"y": (0, 2), "x": (0, 3)}, {"kind": "u8", "wet": "bool"})
             session.insert("flat", {"y": (0, 2), "x": (0, 3)}, {"v": "i16"})
             session.insert("large", {"y": (0, 3999), "x": (0, 3999)}, {"v": "i16"})
+            session.insert("line", {"x": (0, 9)}, {"v": "i16"})
 
     def refusal(self, asked):
         with self.assertRaises(rasterd.Refused) as raised:
@@ -170,6 +271,12 @@ class Mistakes(OverLoopback):
                 with self.subTest(request=request, pairs=pairs):
                     self.assertIn(said, str(self.refusal(lambda: session.request(request, **pairs))))
 
+    def test_a_job_that_has_units_left(self):
+        with self.session() as session:
+            job, _ = session.submit("for c in (large) return max(c)")
+            said = str(self.refusal(lambda: session.fetch(job)))
+        self.assertEqual(said, "71 NotReady: the job has units left: step it until none are")
+
     def test_another_path(self):
         said = str(self.refusal(lambda: self.session(path="/rasdaman/ows").list()))
         self.assertEqual(said, "3 NoSuchPath: the path is /ows, or what a proxy makes of it")
@@ -186,6 +293,22 @@ class Mistakes(OverLoopback):
                 ("for c in (large) return encode(c, csv)", "55 ResultTooLarge: ask for parts of at most 1,048,576"),
             ]:
                 self.assertIn(said, str(self.refusal(lambda: session.query(text))))
+
+    def test_how_deep_a_program_may_call_is_left_as_it_was(self):
+        """The deepest brackets are read all the same."""
+        deepest = f"for c in (hill) return {'(' * 512}1{')' * 512}"
+        lines = [
+            "import sys",
+            "before = sys.getrecursionlimit()",
+            "import rasterd_why",
+            f"told = rasterd_why.misspelled({deepest!r}), rasterd_why.reason(32, dict(query='for c in'), None)",
+            "print(told, sys.getrecursionlimit() == before)",
+        ]
+        words = [sys.executable, "-c", "\n".join(lines)]
+        ended = subprocess.run(
+            words, capture_output=True, text=True, env={**os.environ, "PYTHONPATH": CLIENTS}, check=True
+        )
+        self.assertEqual(ended.stdout, "(None, '1:9: the text ends too soon; here could stand `(`') True\n")
 
     def test_each_mistyped_query_of_the_documents_has_a_reason(self):
         with self.session() as session:

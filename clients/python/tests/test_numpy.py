@@ -45,6 +45,21 @@ class Arrays(OverLoopback):
             with self.assertRaisesRegex(ValueError, "0 items"):
                 session.array("for c in (w) where max(c.v) > 9 return encode(c.v, csv)")
 
+    def test_an_array_of_another_shape_is_not_written(self):
+        cells = numpy.arange(1, 7)
+        with self.session() as session:
+            session.insert("w", {"y": (0, 1), "x": (0, 2)}, {"v": "i16"})
+            for wrong in [cells.reshape(3, 2), cells.reshape(6, 1), cells.reshape(1, 3, 2), cells.reshape(3, 2) / 1]:
+                with self.assertRaisesRegex(ValueError, r"the box has the shape \(2, 3\), and the cells have"):
+                    session.write("w", "v", wrong)
+            self.assertEqual(session.query("for c in (w) return max(c)"), "0\n")
+            for right in [cells, cells.reshape(2, 3), cells.reshape(2, 1, 3), cells.reshape(2, 3) / 1]:
+                session.fill("w", "v", 0)
+                session.write("w", "v", right)
+                numpy.testing.assert_array_equal(
+                    session.array("for c in (w) return encode(c, csv)"), [[1, 2, 3], [4, 5, 6]]
+                )
+
     def test_a_write_in_parts(self):
         cells = numpy.arange(700 * 900, dtype=numpy.int64).reshape(700, 900) * 10**12
         told = []

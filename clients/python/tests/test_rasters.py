@@ -115,7 +115,8 @@ class Rasters(InAFolder):
         self.assertIn("gdal_translate -a_nodata none", said)
         self.assertEqual(self.session().list(), [])
         said = self.loads(source, "dem", "--mask")
-        self.assertIn("not kept: place, reference system, no-data; --geo FILE keeps it", said)
+        told = "not kept: place, reference system, no-data, units, descriptions; --geo FILE keeps it for rasterd-get\n"
+        self.assertIn(told, said)
         said = self.loads(source, "dem", "--mask", "--geo", geo, "--replace")
         self.assertNotIn("not kept", said)
         self.assertEqual(self.session().describe("dem")[1], {"band1": "i16", "band1_ok": "bool"})
@@ -184,13 +185,36 @@ class Rasters(InAFolder):
             raster.SetMetadataItem("AREA", "Luxembourg")
 
         source, geo = made(self.path("cover.tif"), [cells], gdal.GDT_Byte, dress), self.path("geo")
-        self.assertIn("not kept: scale and offset, colour table", self.loads(source, "cover"))
+        self.assertIn("not kept: scale and offset, colour table, metadata; --geo", self.loads(source, "cover"))
         self.loads(source, "cover", "--geo", geo, "--replace")
         self.gets("for c in (cover) return encode(c, csv)", self.path("back.tif"), "--geo", geo)
         self.assert_equal_rasters(source, self.path("back.tif"))
         rasters = [gdal.Open(it) for it in (source, self.path("back.tif"))]
         tables = [it.GetRasterBand(1).GetColorTable() for it in rasters]
         self.assertEqual(*[[table.GetColorEntry(k) for k in range(256)] for table in tables])
+
+    def test_a_place_that_is_no_transform(self):
+        cells, geo = numpy.arange(20, dtype=numpy.int16).reshape(4, 5), self.path("geo")
+        corners = [(0, 0), (100, 2), (3, -80), (99, -81)]
+        points = [gdal.GCP(x, y, 0, column, row) for (x, y), column, row in zip(corners, (0, 5, 0, 5), (0, 0, 4, 4))]
+        coefficients = {
+            f"{it}_{end}": "1" for it in ("LINE", "SAMP", "LAT", "LONG", "HEIGHT") for end in ("OFF", "SCALE")
+        }
+        for it in ("LINE_NUM", "LINE_DEN", "SAMP_NUM", "SAMP_DEN"):
+            coefficients[f"{it}_COEFF"] = " ".join(["1"] * 20)
+        for name, way, dress in [
+            ("points", "control points", lambda raster: raster.SetGCPs(points, osr_of(25832))),
+            ("rpc", "RPCs", lambda raster: raster.SetMetadata(coefficients, "RPC")),
+        ]:
+            source = made(self.path(f"{name}.tif"), [cells], gdal.GDT_Int16, dress)
+            told = f"{source} is placed by {way}, which are not kept: gdalwarp it first\n"
+            self.assertEqual(self.refused("rasterd-load", source, name, "--geo", geo), told)
+            self.assertEqual((self.session().list(), os.path.exists(geo)), ([], False))
+            self.assertIn(told, self.loads(source, name))
+            numpy.testing.assert_array_equal(self.session().array(f"for c in ({name}) return encode(c, csv)"), cells)
+            self.session().delete(name)
+        gdal.Warp(self.path("warped.tif"), self.path("points.tif"))
+        self.assertNotIn("gdalwarp", self.loads(self.path("warped.tif"), "points", "--geo", geo))
 
     def test_parts(self):
         cells = numpy.zeros((4100, 4099), numpy.uint8)

@@ -13,15 +13,17 @@ use Rattle.wcps_mean.specs.declared.cells.CellError.{CellError}
 use Rattle.wcps_mean.specs.declared.cells.CellError.TheVariants as cell
 use Rattle.http_front.specs.declared.reply.Reply.{Reply}
 use Rattle.http_front.specs.declared.reply.Reply.TheVariants.{Text, Csv, Refused}
+use Rattle.kvp_front.specs.declared.request.RequestError.{RequestError}
+use Rattle.kvp_front.specs.Requests.{Asks, insert_coverage, update_coverage, delete_coverage, list_coverages, describe_coverage, process_coverages, submit_query, step_job, fetch_job, cancel_job, expand_template, process_template}
 use Rattle.kvp_front.specs.Templates.{Template}
 use Rattle.coverage_server.specs.declared.error.AnswerError.{AnswerError}
-use Rattle.coverage_server.specs.Fetching.{FetchesNone, FetchesTemplate, FetchesText, FetchesUnits, IsFailure, UnlessFailed, UnlessFails, most_of_plan}
+use Rattle.coverage_server.specs.Fetching.{FetchesBounded, FetchesNone, FetchesRead, FetchesTemplate, FetchesText, FetchesUnits, IsFailure, UnlessFailed, UnlessFails, most_of_plan}
 use Rattle.coverage_server.specs.Holding.{ReleasesFor}
 use Rattle.coverage_server.specs.Leaving.{refusal_number, reply_of}
 use Rattle.coverage_server.specs.Stages.{cell_refusal, step_refusal}
 use Rattle.coverage_server.specs.Templates.{expansion}
 use Rattle.coverage_server.specs.Tiles.{asked_state}
-use Rattle.coverage_server.specs.Views.{ServerView, session}
+use Rattle.coverage_server.specs.Views.{ServerView, SessionView, session}
 
 -- ---- answers
 
@@ -88,3 +90,23 @@ module _ (n : ℕ) (old new : DeskView) (u v m w : ServerView) (job then : ℕ) 
       inr (inl (ap (λ (y : ServerView). y.fetched) as_was ∙ x ∙ ap (λ (y : ServerView). y.fetched) same))
   refused_units (stepping.Cells e) r as_was told x =
       inl (subst (λ (q : AnswerError). IsFailure (refusal_number q)) (sym told) (cells_fail e))
+
+-- ---- what leaves the server as it was
+
+pub none_bounded : (asked : Asks) (code : ℕ) (v : SessionView) → FetchesBounded asked (Refused code) v v
+none_bounded (insert_coverage name intervals fields) code v = refl
+none_bounded (update_coverage name field intervals cells) code v = refl
+none_bounded (delete_coverage name) code v = refl
+none_bounded list_coverages code v = refl
+none_bounded (describe_coverage name) code v = refl
+none_bounded (process_coverages query) code v = inr (inl refl)
+none_bounded (submit_query query) code v = refl
+none_bounded (step_job number units) code v = inr (inl refl)
+none_bounded (fetch_job number) code v = refl
+none_bounded (cancel_job number) code v = refl
+none_bounded (expand_template template) code v = refl
+none_bounded (process_template template) code v = inr (inl refl)
+
+pub none_read : (asked : Result Asks RequestError) (code : ℕ) (v : SessionView) → FetchesRead asked (Refused code) v v
+none_read (Ok asked) code v = none_bounded asked code v
+none_read (Err error) code v = refl

@@ -1,5 +1,5 @@
 -- A template asks of the coverages that its layers name what it asks of all.
-use Rattle.std.proofs.Common.{◌≡◌, ℕ, List, Option, None, Some, Ok, Err, refl, sym, ap, ap₂, ◌∙◌}
+use Rattle.std.proofs.Common.{◌≡◌, ℕ, List, Option, None, Some, Ok, refl, sym, ap, ap₂, ◌∙◌}
 use Rattle.std.specs.Prelude.{IfSome, ok_or}
 use Rattle.arr_core.specs.declared.signature.Signature.{Signature}
 use Rattle.wcps_types.specs.Shapes.{then_of}
@@ -7,7 +7,7 @@ use Rattle.map_templates.specs.declared.params.Layer.{Layer}
 use Rattle.map_templates.specs.declared.params.Params.{Params}
 use Rattle.map_templates.specs.declared.template.Template.{Template}
 use Rattle.map_templates.specs.declared.template.Template.TheVariants.{Local, Focal, Zonal}
-use Rattle.map_templates.specs.declared.refusal.ExpandRefusal.TheVariants.{NoSuchCoverage, BadParameter}
+use Rattle.map_templates.specs.declared.refusal.ExpandRefusal.TheVariants.{NoSuchCoverage}
 use Rattle.map_templates.specs.Refusals.{Answer}
 use Rattle.map_templates.specs.Templates.{template_named}
 use Rattle.map_templates.specs.Expansion.{Operation, local_on, coverage_of, field_of, second_of, radius_of, on_plane, on_domain, operation_of}

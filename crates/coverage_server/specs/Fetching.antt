@@ -14,10 +14,14 @@ use Rattle.tile_exec.specs.Standing.{most_fetched}
 use Rattle.wcps_mean.specs.Answer.{answer}
 use Rattle.wcps_types.specs.Work.{query_work}
 use Rattle.wcps_types.specs.Typed.{TypedTree}
+use Rattle.http_front.specs.declared.conn.Next.{Next}
+use Rattle.http_front.specs.declared.conn.Next.TheVariants.{Message, Ended, ReadFault}
+use Rattle.http_front.specs.declared.conn.Next.TheVariants as next
 use Rattle.http_front.specs.declared.reply.Reply.{Reply}
 use Rattle.http_front.specs.declared.reply.Reply.TheVariants.{Text, Csv, Refused}
-use Rattle.kvp_front.specs.Requests.{Asks, insert_coverage, update_coverage, delete_coverage, list_coverages, describe_coverage, process_coverages, submit_query, step_job, fetch_job, cancel_job, expand_template, process_template}
+use Rattle.kvp_front.specs.Requests.{Asks, insert_coverage, update_coverage, delete_coverage, list_coverages, describe_coverage, process_coverages, submit_query, step_job, fetch_job, cancel_job, expand_template, process_template, spelled}
 use Rattle.kvp_front.specs.Templates.{Template}
+use Rattle.kvp_front.specs.declared.request.RequestError.{RequestError}
 use Rattle.coverage_server.specs.declared.error.AnswerError.{AnswerError}
 use Rattle.coverage_server.specs.Asking.{TextTyped}
 use Rattle.coverage_server.specs.Leaving.{refusal_number}
@@ -109,3 +113,15 @@ FetchesBounded (cancel_job number) reply old new = FetchesNone old.coverages new
 FetchesBounded (expand_template template) reply old new = FetchesNone old.coverages new.coverages
 FetchesBounded (process_template template) reply old new =
     UnlessFailed reply (FetchesNone old.coverages new.coverages ⊎ FetchesTemplate template old.coverages new.coverages)
+
+-- A message that asks something fetches what that may, and one that is refused before fetches no tile.
+abbrev pub FetchesRead : Result Asks RequestError → Reply → SessionView → SessionView → Type 0
+FetchesRead (Ok asked) reply old new = FetchesBounded asked reply old new
+FetchesRead (Err error) reply old new = FetchesNone old.coverages new.coverages
+
+-- so it is with what a connection shows next
+abbrev pub FetchesNext : Next → Reply → SessionView → SessionView → Type 0
+FetchesNext (Message pairs) reply old new = FetchesRead (spelled pairs.items) reply old new
+FetchesNext (next.Refused code) reply old new = FetchesNone old.coverages new.coverages
+FetchesNext Ended reply old new = FetchesNone old.coverages new.coverages
+FetchesNext ReadFault reply old new = FetchesNone old.coverages new.coverages

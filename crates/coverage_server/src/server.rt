@@ -3,7 +3,7 @@ ghost use Rattle.std.specs.Prelude.{◌≡◌, IfOk, IfErr};
 ghost use Rattle.kvp_front.specs.Requests.{asks};
 ghost use Rattle.http_front.specs.declared.conn.Next.TheVariants.{Ended, ReadFault};
 ghost use Rattle.coverage_server.specs.Answered.{AnsweredAs, IsAnswer, LeavesTiles, TellsFailures};
-ghost use Rattle.coverage_server.specs.Fetching.{FetchesBounded};
+ghost use Rattle.coverage_server.specs.Fetching.{FetchesBounded, FetchesNext};
 ghost use Rattle.coverage_server.specs.Holding.{IsHolding};
 ghost use Rattle.coverage_server.specs.Leaving.{Continues, Leaves, LeavesFailures, IfRefused, refusal_number, reply_of};
 ghost use Rattle.coverage_server.specs.Represents.{Refines, Steps};
@@ -143,6 +143,7 @@ impl<D: Disk> Server<D> {
         requires read { next ≡ ReadFault → ⊥ }
         ensures step { IsReply next self.old result self.new }
         ensures continues { Continues self.old.coverages self.new.coverages }
+        ensures fetches { FetchesNext next result self.old self.new }
     {
         let alloc = self.cells.alloc;
         match next {

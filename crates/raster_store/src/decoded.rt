@@ -63,7 +63,7 @@ fn no_marks(alloc: Global, count: usize) -> Result<Vec<Option<TileKey>>, AllocEr
     vec![in alloc; None; count]
 }
 
-/// The place for the mark of a tile.
+/// The place for the mark of a tile. The remainder by a smaller number is the place for its key.
 fn place_of(at: TileKey) -> usize
     ensures { result < MARKS }
 {
@@ -229,8 +229,7 @@ impl DecodedTiles {
     fn note(&mut self, at: TileKey) -> bool
         ensures { NoneAdded self.old self.new }
     {
-        let place = at.tile.wrapping_add((at.field as u64).wrapping_mul(101)) % NOTED as u64;
-        let Some(noted) = self.read.get_mut(place as usize) else {
+        let Some(noted) = self.read.get_mut(place_of(at) % NOTED) else {
             return false;
         };
         if *noted == at {

@@ -1,3 +1,4 @@
 pub mod Commands
 pub mod Lines
+pub mod Resuming
 pub mod Sessions

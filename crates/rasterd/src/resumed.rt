@@ -4,6 +4,7 @@ ghost use Rattle.std.specs.Io.{ReadsAtMost, WritesAtMost};
 ghost use Rattle.std.specs.Io.KnownBytes.{ReadConsumes, WriteAppends, Keeps};
 ghost use Rattle.std.specs.IoError.{error_kind};
 ghost use Rattle.stream_face.specs.Faults.{TellsRead, TellsWrite, fault_told};
+ghost use Rattle.rasterd.specs.Resuming.{TakesNothing};
 ghost use Rattle.stream_face.specs.Waiting.{WaitsAfterWrite, WaitsAfterFlush};
 
 use std::io;
@@ -75,6 +76,7 @@ fn write_again<W: Sink>(writer: &mut W, bytes: &[u8]) -> io::Result<usize>
     ensures bytes { WriteAppends (W.view writer.old).contents (W.view writer.new).contents result bytes.now }
     ensures waits { WaitsAfterWrite (W.view writer.old).waiting (W.view writer.new).waiting result }
     ensures fault { OnErr result ((W.view writer.new).failed ≡ fault_told (W.view writer.old).failed) }
+    ensures nothing { TakesNothing (W.view writer.old).failed (W.view writer.new).failed result bytes.now }
     ensures resumed { IfErr result (λ e. error_kind e ≢ ErrorKind.Interrupted) }
 {
     let mut left = MAX_TRIES;
@@ -145,6 +147,7 @@ impl<W: Sink> Sink for Resumed<W> {
         ensures told { TellsWrite (Some self.old.failed) (Some self.new.failed) result bytes.now }
         ensures waits { WaitsAfterWrite (W.view self.old.inner).waiting (W.view self.new.inner).waiting result }
         ensures fault { OnErr result ((W.view self.new.inner).failed ≡ fault_told (W.view self.old.inner).failed) }
+        ensures nothing { TakesNothing (W.view self.old.inner).failed (W.view self.new.inner).failed result bytes.now }
         ensures resumed { IfErr result (λ e. error_kind e ≢ ErrorKind.Interrupted) }
     {
         match write_again(&mut self.inner, bytes) {

@@ -1,8 +1,8 @@
 //! One session of the program, with its status.
-ghost use Rattle.std.specs.Prelude.{◌≡◌, IsSomeAnd, codes};
-ghost use Rattle.coverage_server.specs.Sessions.{StaysHonest, ends_all};
+ghost use Rattle.std.specs.Prelude.{◌≡◌, IfOk, IsSomeAnd, codes};
+ghost use Rattle.coverage_server.specs.Sessions.{IsSession, StaysHonest, ends_all};
 ghost use Rattle.rasterd.specs.Lines.{Says, fault_line};
-ghost use Rattle.rasterd.specs.Sessions.{EndsAs};
+ghost use Rattle.rasterd.specs.Sessions.{EndsAs, SaysWhy, status_of};
 
 use crate::lines::tell;
 use arr_core::Refusal;
@@ -39,8 +39,35 @@ pub fn not_closed<E: Sink>(errors: &mut E, refusal: Refusal) -> u8
 }
 
 /// Opens the store that a disk holds, serves one connection, its reader and its writer, and closes the store. Gives the
-/// status of the program, and the disk where it came back: `CLOSED`; or `NOT_OPENED`, where the reader and the writer are
-/// as they were, or `NOT_CLOSED`, with a line of `errors` that says why.
+/// status of the program, and how the session ended: `CLOSED`; or `NOT_OPENED`, where the reader and the writer are as they
+/// were, or `NOT_CLOSED`, with a line of `errors` that says why.
+pub fn session_end<D: Disk + Drop, R: Source, W: Sink, E: Sink>(
+    alloc: Global,
+    disk: D,
+    streams: &mut [(R, W); 1],
+    errors: &mut E,
+) -> (u8, Result<D, SessionFault<D>>)
+    ensures session { IsSession D.Disk disk (ends_all R.view W.view streams.old streams.new) result.1 }
+    ensures status { result.0 ≡ status_of result.1 }
+    ensures line { SaysWhy (E.view errors.old) (E.view errors.new) result.1 }
+    ensures still { IfOk result.1 (StaysHonest D.Disk disk) }
+    ensures untouched { result.0 ≡ 3 → streams.new ≡ streams.old }
+    ensures quiet { result.0 ≡ 0 → errors.new ≡ errors.old }
+{
+    match serve_session(alloc, disk, streams) {
+        Ok(disk) => (CLOSED, Ok(disk)),
+        Err(SessionFault::NotOpened(disk, fault)) => {
+            let status = not_opened(errors, fault.refusal());
+            (status, Err(SessionFault::NotOpened(disk, fault)))
+        }
+        Err(SessionFault::NotClosed(server, fault)) => {
+            let status = not_closed(errors, fault.refusal());
+            (status, Err(SessionFault::NotClosed(server, fault)))
+        }
+    }
+}
+
+/// The same, and gives the disk where it came back: a server that was not closed has it, and is let go.
 pub fn session_status<D: Disk + Drop, R: Source, W: Sink, E: Sink>(
     alloc: Global,
     disk: D,
@@ -52,14 +79,11 @@ pub fn session_status<D: Disk + Drop, R: Source, W: Sink, E: Sink>(
     ensures untouched { result.0 ≡ 3 → streams.new ≡ streams.old }
     ensures quiet { result.0 ≡ 0 → errors.new ≡ errors.old }
 {
-    match serve_session(alloc, disk, streams) {
-        Ok(disk) => (CLOSED, Some(disk)),
-        Err(SessionFault::NotOpened(disk, fault)) => {
-            let status = not_opened(errors, fault.refusal());
-            (status, Some(disk))
-        }
-        Err(SessionFault::NotClosed(server, fault)) => {
-            let status = not_closed(errors, fault.refusal());
+    let (status, end) = session_end(alloc, disk, streams, errors);
+    match end {
+        Ok(disk) => (status, Some(disk)),
+        Err(SessionFault::NotOpened(disk, _)) => (status, Some(disk)),
+        Err(SessionFault::NotClosed(server, _)) => {
             drop(server);
             (status, None)
         }

@@ -1,6 +1,7 @@
 -- The cells of halos.
-use Rattle.std.proofs.Common.{◌≡◌, ℕ, zero, suc, ◌+◌, ◌-◌, ◌*◌, ◌≤◌, ◌<◌, ℤ, pos, ◌+ℤ◌, ◌≤ℤ◌, List, [], ◌∷◌, ◌++◌, map, take, append_assoc, length, get_or, ap, sym, ◌∙◌, subst, arith}
-use Rattle.std.specs.Prelude.{slice_get, IsSomeAnd}
+use Rattle.std.proofs.Common.{◌≡◌, ℕ, zero, suc, ◌+◌, ◌-◌, ◌*◌, ◌≤◌, ◌<◌, ℤ, pos, ◌+ℤ◌, ◌≤ℤ◌, List, [], ◌∷◌, ◌++◌, map, take, append_assoc, length, get_or, refl, ap, sym, ◌∙◌, subst, arith}
+use Rattle.std.specs.Prelude.{slice_get, IsSomeAnd, OnOk, Result, Ok, Err, cond}
+use Rattle.std.specs.Result.{is_ok}
 use Rattle.std.specs.List.{All}
 use Rattle.std.proofs.lemmas.Int.{ints}
 use Rattle.std.proofs.lemmas.List.{map_more}
@@ -161,6 +162,15 @@ values_more column k o z base cells new lt a v n h =
     n ∙ ap (λ l. l ++ z ∷ []) h ∙ append_assoc base (map value_of (take k column)) (z ∷ [])
     ∙ ap (λ x. base ++ (map value_of (take k column) ++ x ∷ [])) (v ∙ ap value_of (sym a))
     ∙ ap (λ l. base ++ l) (sym (map_more value_of column k (Value (pos 0)) lt))
+
+values_of_values : (zs : List ℤ) → map value_of (map Value zs) ≡ zs
+values_of_values [] = refl
+values_of_values (z ∷ zs) = ap (λ l. z ∷ l) (values_of_values zs)
+
+-- a column without a fault, where its values went on behind others
+pub values_on : {E : Type 0} (result : Result Unit E) (column : List Outcome) (zs base cells : List ℤ) → column ≡ map Value zs → cells ≡ cond (is_ok result) (base ++ zs) base → OnOk result (cells ≡ base ++ map value_of column)
+values_on (Ok u) column zs base cells e n = n ∙ ap (λ l. base ++ l) (sym (ap (map value_of) e ∙ values_of_values zs))
+values_on (Err e) column zs base cells f n = tt
 
 -- ---- how much is read
 

@@ -1,8 +1,7 @@
 -- Folds that are told tile by tile.
-use Rattle.std.proofs.Common.{◌≡◌, ◌≢◌, ℕ, zero, suc, ◌+◌, ◌-◌, ◌*◌, ◌<◌, ◌≤◌, ◌^◌, List, [], ◌∷◌, ◌++◌, length, get_or, map, take, refl, sym, ap, ◌∙◌, subst, arith, ℤ, pos, false, cond, below_more, length-append, Option, Some, None}
+use Rattle.std.proofs.Common.{◌≡◌, ◌≢◌, ℕ, zero, suc, ◌+◌, ◌-◌, ◌*◌, ◌<◌, ◌≤◌, ◌^◌, List, [], ◌∷◌, ◌++◌, length, get_or, map, take, refl, sym, ap, ◌∙◌, subst, arith, ℤ, pos, below_more, length-append, Option, Some, None}
 use Rattle.std.specs.List.{flat_map, range_with_len}
 use Rattle.std.specs.List.Sorted.{IsPermutation}
-use Rattle.std.proofs.lemmas.Bool.{false≢true}
 use Rattle.std.proofs.lemmas.List.Sorted.{length_permutation, All-permutation, Contains-permutation, IsPermutation-append_right}
 use Rattle.std.proofs.lemmas.List.Elements.{All-map, All-cons, All-nil}
 use Rattle.arr_core.specs.declared.domain.Axis.{Axis}
@@ -16,19 +15,18 @@ use Rattle.wcps_mean.specs.declared.running.Running.{Running}
 use Rattle.wcps_mean.specs.declared.cell.PointFault.{PointFault}
 use Rattle.wcps_mean.specs.declared.cell.Outcome.{Outcome}
 use Rattle.wcps_mean.specs.declared.cell.Outcome.TheVariants.{Value, Fault}
-use Rattle.wcps_mean.specs.Condensers.{values, demanded}
+use Rattle.wcps_mean.specs.Condensers.{values}
 use Rattle.wcps_mean.specs.Feeding.{Keeps}
 use Rattle.wcps_mean.specs.Magnitudes.{cap}
 use Rattle.plan_ir.specs.Bodies.{Tree}
 use Rattle.plan_ir.specs.Placed.{spans}
 use Rattle.plan_ir.specs.Units.{bound_times}
 use Rattle.tile_kernel.specs.declared.accumulator.Accumulator.{Accumulator}
-use Rattle.tile_kernel.specs.Selected.{Chooses}
 use Rattle.tile_kernel.specs.Told.{Told, outcomes, told_at, demanded_of, demanded_at, IsValue, IsFirst, StandsFrom}
 use Rattle.tile_kernel.specs.Standing.{Stands, TakesIn, EachTakesIn, HaveAtMost}
 use Rattle.tile_kernel.proofs.Orders.{total-permuted, trues-permuted, every-permuted, any-permuted, has_zero-permuted, sign-permuted, size-permuted, greatest-permuted, least-permuted}
 use Rattle.tile_columns.specs.Evaluating.{AreWithin, HasPlace, HasPlaceUnder}
-use Rattle.tile_columns.specs.Condensing.{told_of, under_vars, told_ranked, demands, MergesAt}
+use Rattle.tile_columns.specs.Condensing.{told_of, under_vars, told_ranked, MergesAt}
 use Rattle.tile_columns.specs.TileOrder.{points_to}
 use Rattle.tile_columns.proofs.Boxes.{points_within}
 use Rattle.tile_columns.proofs.Condensings.{takes_nothing, takes_then, takes_same}
@@ -174,15 +172,6 @@ always_told [] r frame = refl
 always_told (p ∷ ranks) r [] = refl
 always_told (p ∷ ranks) r (x ∷ frame) = ap (λ l. (p, r x) ∷ l) (always_told ranks r frame)
 
--- where a condition is false at each place there is nothing
-pub never_told : (ps : List ℕ) (cs os : List Outcome) → Chooses (λ k. false) cs → demanded_at ps cs os ≡ []
-never_told [] cs os h = refl
-never_told (p ∷ ps) [] os h = refl
-never_told (p ∷ ps) (c ∷ cs) [] h = refl
-never_told (p ∷ ps) (c ∷ cs) (o ∷ os) h =
-    ap (λ l. map (λ (d : Outcome). (p, d)) l ++ demanded_at ps cs os) (h 0 o (omega arith))
-    ∙ never_told ps cs os (λ k d lt. h (suc k) d (omega arith))
-
 -- ---- places of bodies
 
 pub one_place : {cs : ℕ → Option Signature} {n : ℕ} (e : Tree) (envs : List (List ℤ)) (k : ℕ) → k < length envs → HasPlace cs n e envs → HasPlace cs n e (get_or envs k [] ∷ [])
@@ -205,9 +194,3 @@ pub times_tile : (n : ℕ) (box part : List Axis) (t : ℕ) (e : Tree) → t < l
 times_tile n box part t e lt is =
     ap (λ m. bound_times (n * m) e) (points_next box part t lt is ∙ ap (λ m. length (points_to box t) + m) (length-points part))
     ∙ times_parts n (length (points_to box t)) (count part) e
-
--- ---- conditions that are false everywhere
-
-pub no_demand : (c o : Outcome) → demands c ≡ false → demanded c o ≡ []
-no_demand (Fault f) o h = absurd (false≢true (sym h))
-no_demand (Value z) o h = ap (λ b. cond b (o ∷ []) []) h

@@ -1,13 +1,11 @@
 -- What a fold lists at a place.
-use Rattle.std.specs.Prelude.{◌≡◌, ◌≢◌, ℕ, suc, ◌+◌, ◌<◌, ◌≤◌, ℤ, List, [], ◌∷◌, ◌++◌, map, length, slice_index_or, Bool, true}
+use Rattle.std.specs.Prelude.{◌≡◌, ◌≢◌, ℕ, suc, ◌+◌, ◌<◌, ◌≤◌, ℤ, List, [], ◌∷◌, ◌++◌, map, length, slice_index_or}
 use Rattle.std.specs.List.{range_with_len}
 use Rattle.arr_core.specs.declared.domain.Axis.{Axis}
 use Rattle.arr_core.specs.Domains.{rank_of}
 use Rattle.arr_core.specs.Limits.{max_points}
 use Rattle.wcps_text.specs.declared.operator.Aggregate.{Aggregate}
 use Rattle.wcps_mean.specs.declared.cell.Outcome.{Outcome}
-use Rattle.wcps_mean.specs.declared.cell.Outcome.TheVariants.{Value, Fault}
-use Rattle.arr_core.specs.Cells.{truth_of}
 use Rattle.tile_kernel.specs.declared.accumulator.Accumulator.{Accumulator}
 use Rattle.wcps_mean.specs.Condensers.{condensed}
 use Rattle.tile_kernel.specs.Told.{Told, demanded_of, outcomes, AreRising}
@@ -25,11 +23,6 @@ under_vars e vars x = e (vars ++ x)
 -- what a point of a fold's box adds under these variables, at the point's place in the box
 abbrev pub told_ranked : List Axis → (List ℤ → Outcome) → (List ℤ → Outcome) → List ℤ → List ℤ → List Told
 told_ranked box c e vars x = demanded_of (rank_of box x) (under_vars c vars x) (under_vars e vars x)
-
--- whether a point adds something under a condition with this outcome: its fault, or what the body gives
-abbrev pub demands : Outcome → Bool
-demands (Fault f) = true
-demands (Value z) = truth_of z
 
 -- the accumulator at a place takes in what another one was told, and the others stay as they are
 pub record MergesAt (place : ℕ) (found : Accumulator) (before after : List Accumulator) : Type 0 where

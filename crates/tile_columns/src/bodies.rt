@@ -14,9 +14,7 @@ ghost use Rattle.tile_columns.specs.Folds.{FoldHasPlace, BodiesHavePlace, AreOfF
 ghost use Rattle.tile_columns.specs.Folds.{IsColumnOfOther, FetchesOther, FetchesByZones};
 
 use crate::binds::{coordinates, settle};
-use crate::folds::{
-    empty_folds, finish_folds, goes_by_tiles, is_never, merge_at, part_frame, push_place,
-};
+use crate::folds::{empty_folds, finish_folds, goes_by_tiles, merge_at, part_frame, push_place};
 use crate::frame::Frame;
 use crate::ground::{BodyRead, Ground, read_cells};
 use crate::halo::condense_window;
@@ -31,7 +29,7 @@ use crate::zone_folds::{Keys, Seen, keys_of, tell_seen};
 use crate::zones::{Zones, zones_of};
 use plan_ir::{Body, Fold, Interval, register};
 use tile_kernel::{
-    Accumulator, Column, add_column, add_column_where, fold_column, fold_column_where,
+    Accumulator, Column, add_column, add_column_where, fold_column, fold_column_where, is_never,
     operate_column, operate_columns,
 };
 use wcps_mean::{CellError, Outcome};

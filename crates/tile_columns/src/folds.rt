@@ -1,19 +1,18 @@
 //! The accumulators of a fold, one for each place of a column.
 
-ghost use Rattle.std.specs.Prelude.{◌≡◌, ◌*◌, ◌++◌, ◌<◌, ◌≤◌, Bool, false, List, [], length, map, slice_index_or, IfOk, OnOk, IsTrue, nat_lt};
+ghost use Rattle.std.specs.Prelude.{◌≡◌, ◌*◌, ◌++◌, ◌<◌, ◌≤◌, List, [], length, map, slice_index_or, IfOk, OnOk, nat_lt};
 ghost use Rattle.arr_core.specs.Limits.{max_tile};
 ghost use Rattle.arr_core.specs.Domains.{points, count, IsInside};
 ghost use Rattle.arr_core.specs.Tiles.{tile_boxes};
-ghost use Rattle.tile_kernel.specs.Selected.{Chooses};
 ghost use Rattle.tile_kernel.specs.Standing.{EachStands, AreOf, HaveAtMost};
 ghost use Rattle.tile_columns.specs.Frames.{under};
-ghost use Rattle.tile_columns.specs.Condensing.{demands, MergesAt, HasRoomAt, AreOutcomesOf};
+ghost use Rattle.tile_columns.specs.Condensing.{MergesAt, HasRoomAt, AreOutcomesOf};
 
 use crate::frame::Frame;
 use arr_core::Domain;
 use std::alloc::{AllocError, Global};
-use tile_kernel::{Accumulator, Column};
-use wcps_mean::{Outcome, is_set};
+use tile_kernel::Accumulator;
+use wcps_mean::Outcome;
 use wcps_text::Aggregate;
 
 /// Accumulators of no point, one for each place.
@@ -102,28 +101,6 @@ pub(crate) fn merge_at(folds: &mut [Accumulator], place: usize, found: &Accumula
     ensures { MergesAt place found.now folds.old folds.new }
 {
     folds[place].take_over(found);
-}
-
-/// Whether a point adds something under a condition with this outcome.
-fn demands(condition: Outcome) -> bool
-    ensures { result ≡ demands condition }
-{
-    match condition {
-        Outcome::Fault(_) => true,
-        Outcome::Value(x) => is_set(x),
-    }
-}
-
-/// Whether a condition is false at each place.
-pub(crate) fn is_never(condition: &Column) -> bool
-    ensures { IsTrue result → Chooses (λ _. false) condition.now }
-{
-    for k in 0..condition.len() {
-        if demands(condition.at(k)) {
-            return false;
-        }
-    }
-    true
 }
 
 /// Whether a fold takes fewer column operations a tile box at a time, one for each tile box and place of the frame, than

@@ -34,6 +34,9 @@ fn value_of(o: Outcome) -> i64
 fn push_values(column: &Column, cells: &mut Vec<i64>) -> Result<(), AllocError>
     ensures { OnOk result (cells.new.items ≡ cells.old.items ++ map value_of column.now) }
 {
+    if let Some(values) = column.values() {
+        return cells.extend_from_slice(values);
+    }
     for place in 0..column.len() {
         cells.push(value_of(column.at(place)))?;
     }

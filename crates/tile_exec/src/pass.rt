@@ -19,7 +19,7 @@ use plan_ir::{Body, Fold};
 use std::alloc::{AllocError, Global};
 use tile_columns::{Frame, Ground, Tiles, ranks};
 use tile_kernel::{
-    Accumulator, Column, fold_column, fold_column_where, fold_values, fold_values_where,
+    Accumulator, Column, fold_column, fold_column_where, fold_values, fold_values_where, is_never,
 };
 use wcps_mean::{CellError, Outcome};
 use wcps_text::Aggregate;
@@ -134,6 +134,9 @@ pub(crate) fn pass_tile<S: Tiles>(
                 condition,
                 &mut buffers.chosen,
             )?;
+            if is_never(&buffers.chosen) {
+                return Ok(Accumulator::empty(pass.op));
+            }
             column_at(
                 &mut buffers.memory,
                 source,

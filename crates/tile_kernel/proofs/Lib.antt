@@ -15,3 +15,4 @@ pub mod Condensing
 pub mod Spans
 pub mod Values
 pub mod Narrow
+pub mod Falsity

@@ -7,7 +7,7 @@ use Rattle.std.proofs.lemmas.Int.{ints, fits_signed_from_abs, unsigned_abs-mul, 
 use Rattle.wcps_mean.specs.declared.cell.Outcome.{Outcome}
 use Rattle.wcps_mean.specs.declared.cell.Outcome.TheVariants.{Value}
 use Rattle.wcps_mean.specs.Cells.{ranged, quotient, number, truth}
-use Rattle.tile_kernel.specs.Columns.{exact_at, AreValues}
+use Rattle.tile_kernel.specs.Columns.{exact_at}
 use Rattle.tile_kernel.specs.Narrow.{IsNarrowOf, AreNarrowOf, AreWithin, IsBound, IsWritten}
 use Rattle.tile_kernel.specs.Tried.{IsTried}
 use Rattle.tile_kernel.specs.declared.narrow_loops.Bounds.{Bounds}

@@ -209,3 +209,11 @@ outcomes_written os zs fs p q at =
     same_lists (outcomes_of (take (length os) zs) (take (length os) fs)) os n (λ k d lt.
     let l : k < length os = omega arith in
     at_mixed (length os) k zs fs (pos 0) None d l p q ∙ at k l ∙ other_default os k (Value (pos 0)) d l)
+
+-- a column of values
+pub values_written : (os : List Outcome) (zs : List ℤ) → length os ≤ length zs → ((k : ℕ) → k < length os → outcome_at os k ≡ Value (get_or zs k (pos 0))) → map Value (take (length os) zs) ≡ os
+values_written os zs p at =
+    let n = length-front (length os) zs p in
+    same_lists (map Value (take (length os) zs)) os n (λ k d lt.
+    let l : k < length os = omega arith in
+    at_front (length os) k zs (pos 0) d l p ∙ sym (at k l) ∙ other_default os k (Value (pos 0)) d l)

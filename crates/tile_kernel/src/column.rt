@@ -4,7 +4,7 @@ ghost use Rattle.std.specs.Prelude.{◌≡◌, ◌<◌, ◌≤◌, [], length, m
 ghost use Rattle.arr_core.specs.Limits.{max_tile};
 ghost use Rattle.arr_core.specs.Runs.{cells_of, runs_of};
 ghost use Rattle.wcps_mean.specs.declared.cell.Outcome.TheVariants.{Value};
-ghost use Rattle.tile_kernel.specs.Columns.{outcome_at, AreOutcomes, IsAsRoomy};
+ghost use Rattle.tile_kernel.specs.Columns.{outcome_at, AreOutcomes, AreValues, IsAsRoomy};
 ghost use Rattle.tile_kernel.specs.Repeated.{shown, RepeatsIf};
 
 use crate::form::Form;
@@ -229,10 +229,13 @@ impl Column {
     {
         grow(&mut self.values, outcomes.len(), 0);
         grow(&mut self.faults, outcomes.len(), None);
-        copy_outcomes(&mut self.values, &mut self.faults, outcomes);
         self.len = outcomes.len();
-        self.form = Form::Mixed;
         self.runs = None;
+        if copy_outcomes(&mut self.values, &mut self.faults, outcomes) {
+            self.form = Form::Values;
+            return;
+        }
+        self.form = Form::Mixed;
     }
 
     /// Makes each of its outcomes stand as often as its count says, over `len` places in all, if all are values and there
@@ -315,21 +318,29 @@ fn copy_counts(all: &mut Vec<u32>, counts: &[u32]) -> bool
     all.extend_from_slice(counts).is_ok()
 }
 
-/// Puts the values and the faults that stand for outcomes to the front of lists.
-fn copy_outcomes(values: &mut Vec<i64>, faults: &mut Vec<Option<PointFault>>, outcomes: &[Outcome])
+/// Puts the values and the faults that stand for outcomes to the front of lists; tells whether there is no fault.
+fn copy_outcomes(
+    values: &mut Vec<i64>,
+    faults: &mut Vec<Option<PointFault>>,
+    outcomes: &[Outcome],
+) -> bool
     requires values { length outcomes.now ≤ length values.old.items }
     requires faults { length outcomes.now ≤ length faults.old.items }
     ensures values { IsAsRoomy values.old values.new }
     ensures faults { IsAsRoomy faults.old faults.new }
     ensures outcomes { AreOutcomes (length outcomes.now) (outcome_at outcomes.now) values.new.items faults.new.items }
+    ensures told { IsTrue result → AreValues (length outcomes.now) (outcome_at outcomes.now) values.new.items }
 {
     let numbers = values.as_mut_slice();
     let marks = faults.as_mut_slice();
+    let mut are_values = true;
     for place in 0..outcomes.len() {
         let (value, fault) = parts(outcomes[place]);
         numbers[place] = value;
         marks[place] = fault;
+        are_values &= fault.is_none();
     }
+    are_values
 }
 
 /// Copies cells to the front of values.

@@ -7,6 +7,7 @@ mod by_keys;
 mod choice;
 mod column;
 mod condenser;
+mod conditions;
 mod first_fault;
 mod folds;
 mod form;
@@ -43,6 +44,7 @@ pub use accumulator::Accumulator;
 pub use by_keys::condense_keyed;
 pub use column::{Column, MAX_PLACES};
 pub use condenser::{Condensed, Condenser, condense, finish_both, tell_each};
+pub use conditions::is_never;
 pub use first_fault::FirstFault;
 pub use folds::{
     add_column, add_column_where, fold_column, fold_column_where, fold_values, fold_values_where,

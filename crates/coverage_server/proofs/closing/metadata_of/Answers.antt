@@ -1,5 +1,5 @@
 -- Each coverage adds its indexes, and the store has as many lists of them as coverages.
-use Rattle.std.proofs.Common.{◌≡◌, ◌++◌, ◌≤◌, List, length, sym, ap, ◌∙◌, arith, append-nil, take_all}
+use Rattle.std.proofs.Common.{◌++◌, ◌≤◌, List, length, sym, ap, ◌∙◌, arith, append-nil, take_all}
 use Rattle.std.specs.List.{flat_map}
 use Rattle.catalogue.specs.Bytes.{catalogue_bytes}
 use Rattle.metadata.specs.Metadata.{part_bytes, indexes_bytes, metadata_bytes}

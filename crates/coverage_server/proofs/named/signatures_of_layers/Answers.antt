@@ -1,5 +1,5 @@
 -- Both layers' coverages are found among the signatures as among all.
-use Rattle.std.proofs.Common.{◌≡◌, ℕ, List, Option, Some, sym, subst}
+use Rattle.std.proofs.Common.{ℕ, List, Option, sym, subst}
 use Rattle.std.specs.Prelude.{IfSome}
 use Rattle.map_templates.specs.declared.params.Layer.{Layer}
 use Rattle.coverage_server.specs.Named.{IsFoundIn}

@@ -1,5 +1,5 @@
 -- The text has the name of each coverage on a line, in the store's order.
-use Rattle.std.proofs.Common.{◌≡◌, ◌≤◌, ◌++◌, [], List, ℕ, length, refl, ap, ◌∙◌, arith, append_assoc, take_all}
+use Rattle.std.proofs.Common.{◌≤◌, ◌++◌, [], List, ℕ, length, refl, ap, ◌∙◌, arith, append_assoc, take_all}
 use Rattle.std.specs.Prelude.{codes, string_bytes}
 use Rattle.std.specs.List.{flat_map}
 use Rattle.std.proofs.lemmas.List.{length-map}

@@ -38,7 +38,8 @@ use Rattle.tile_columns.specs.Condensing.{told_of, told_ranked}
 use Rattle.tile_columns.specs.Zones.{own_of, key_of, other_of, AreZonesOf}
 use Rattle.tile_columns.specs.TileOrder.{points_to}
 use Rattle.tile_columns.proofs.TileOrders.{points_whole}
-use Rattle.tile_columns.proofs.TileFolds.{no_tile, tile_more, all_tiles, points_next, room_more, place_more, count_more, rest_more, stands_ranked, always_told, never_told, one_place, place_in_part, times_tile}
+use Rattle.tile_kernel.proofs.Falsity.{never_told}
+use Rattle.tile_columns.proofs.TileFolds.{no_tile, tile_more, all_tiles, points_next, room_more, place_more, count_more, rest_more, stands_ranked, always_told, one_place, place_in_part, times_tile}
 use Rattle.tile_columns.proofs.ZoneFolds.{zone_told, own_place, other_place, key_place, zone_bound, times_next}
 use Rattle.tile_columns.proofs.ZoneKeys.{zoned_equation}
 use Rattle.tile_columns.specs.Meaning.{meaning, chosen, HasPlaceOver, IsColumnOf, Fetches}

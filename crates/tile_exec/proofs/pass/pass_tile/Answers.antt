@@ -10,6 +10,7 @@ use Rattle.plan_ir.specs.Planned.{cells_of}
 use Rattle.plan_ir.specs.Units.{bound_of}
 use Rattle.tile_kernel.specs.Told.{told_at, demanded_at}
 use Rattle.tile_kernel.specs.Standing.{Stands}
+use Rattle.tile_kernel.proofs.Falsity.{never_told}
 use Rattle.tile_columns.specs.Evaluating.{HasPlace}
 use Rattle.tile_columns.proofs.Tilings.{tile_is}
 use Rattle.tile_exec.proofs.Finding.{told_always, told_where, placed_within, bounded_over}
@@ -119,3 +120,27 @@ returns-clause-fetched g c =
     let h = bounded_over (signature_of between.coverages cov) part c.column_at-in-Some.new.frame (body_view c.args.pass.now.body) between.fetched after.fetched (first.frame ∙ c.in_ok-frame.ensures) tile.ordered c.in_ok-column_at-in-Some-2.ensures.fetched in
     let tree : condition_view c.args.pass.now.condition ≡ body_view c.in-Some.condition = ap condition_view c.in-Some.is in
     omega (arith, f, h, ap (bound_of cs part) tree, ap (λ a. bound_of (signature_of a cov) part (body_view c.args.pass.now.body)) first.reads.only.coverages)
+
+pub returns-then-is_never-clause-stands : goal.returns-then-is_never-clause-stands
+returns-then-is_never-clause-stands g c = λ intact.
+    let p = pass_view c.args.pass.now in
+    let s = cells_of (g.S.Tiles.state c.args.source.now).cells c.args.ground.now.coverages.now in
+    let regs = c.args.ground.now.registers.now in
+    let part = tile_box p.domain c.args.tile in
+    let ranks = map (rank_of p.domain) (points part) in
+    let body = map (run s regs p.body) (points part) in
+    let tree : condition_view c.args.pass.now.condition ≡ body_view c.in-Some.condition = ap condition_view c.in-Some.is in
+    let chosen = c.in_ok-column_at-in-Some.ensures.value intact ∙ ap (λ t. map (run s regs t) c.in_ok-frame.frame) (sym tree) ∙ ap (map (run s regs p.condition)) c.in_ok-frame.ensures in
+    let none = sym (ap (λ l. demanded_at ranks l body) chosen) ∙ never_told ranks c.column_at-in-Some.new.out body (c.is_never.ensures c.if-is_never.true) in
+    subst (Stands c.empty.result) (sym none ∙ told_where s regs p (points part)) c.empty.ensures.stands
+
+pub returns-then-is_never-clause-fetched : goal.returns-then-is_never-clause-fetched
+returns-then-is_never-clause-fetched g c =
+    let area = c.args.pass.now.domain in
+    let part = tile_box area c.args.tile in
+    let s = g.S.Tiles.state c.args.source.now in
+    let cs = signature_of s.coverages c.args.ground.now.coverages.now in
+    let tile = tile_is area c.args.tile c.axes-axes.ensures.domain c.requires.tile in
+    let f = bounded_over cs part c.in_ok-frame.frame (body_view c.in-Some.condition) s.fetched (g.S.Tiles.state c.column_at-in-Some.new.source).fetched c.in_ok-frame.ensures tile.ordered c.in_ok-column_at-in-Some.ensures.fetched in
+    let tree : condition_view c.args.pass.now.condition ≡ body_view c.in-Some.condition = ap condition_view c.in-Some.is in
+    omega (arith, f, ap (bound_of cs part) tree)

@@ -1,11 +1,15 @@
 -- The reply to a message whose pairs came.
-use Rattle.std.proofs.Common.{◌≡◌, ◌∙◌, ℕ, List, Result, Ok, sym, ap, subst}
+use Rattle.std.proofs.Common.{◌≡◌, ◌∙◌, ℕ, List, Result, Ok, refl, sym, ap, subst}
 use Rattle.arr_core.specs.declared.refusal.Refusal.{Refusal}
 use Rattle.arr_core.specs.Refusals.{number_of}
+use Rattle.http_front.specs.declared.conn.Next.{Next}
 use Rattle.http_front.specs.declared.reply.Reply.TheVariants.{Refused}
 use Rattle.http_front.specs.Stream.{Shows}
-use Rattle.kvp_front.specs.Requests.{asks, spelled}
+use Rattle.kvp_front.specs.Requests.{Asks, asks, spelled}
+use Rattle.kvp_front.specs.declared.request.RequestError.{RequestError}
+use Rattle.coverage_server.specs.Fetching.{FetchesNext, FetchesRead}
 use Rattle.coverage_server.specs.Runs.{MessageStep}
+use Rattle.coverage_server.proofs.FetchingLemmas.{none_read}
 use Rattle.coverage_server.proofs.ReplyLemmas.{spelled_step, spelled_badly, refused_step}
 use Rattle.coverage_server.proofs.server.Server.reply_to.Goals as goal
 
@@ -42,3 +46,22 @@ returns-in-Refused-clause-step g c =
       r,
       refused_step asked c.in-Refused.code s (subst (Shows asked) c.in-Refused.is shows),
     )
+
+pub returns-in-Ok-clause-fetches : goal.returns-in-Ok-clause-fetches
+returns-in-Ok-clause-fetches g c =
+    let v = c.args.self.now in
+    let w = c.answer-reply.new.self in
+    let read : spelled c.in-Message.pairs.items ≡ Ok (asks c.in-Ok.request) = ap spelled (sym c.as_slice.ensures.value) ∙ c.in-Ok.ensures in
+    subst (λ (n : Next). FetchesNext n c.answer-reply.result v w) (sym c.in-Message.is)
+    (subst (λ (r : Result Asks RequestError). FetchesRead r c.answer-reply.result v w) (sym read) c.answer-reply.ensures.fetches)
+
+pub returns-in-Message-clause-fetches : goal.returns-in-Message-clause-fetches
+returns-in-Message-clause-fetches g c =
+    let v = c.args.self.now in
+    subst (λ (n : Next). FetchesNext n (Refused c.number.result) v v) (sym c.in-Message.is)
+    (none_read (spelled c.in-Message.pairs.items) c.number.result v)
+
+pub returns-in-Refused-clause-fetches : goal.returns-in-Refused-clause-fetches
+returns-in-Refused-clause-fetches g c =
+    let v = c.args.self.now in
+    subst (λ (n : Next). FetchesNext n (Refused c.in-Refused.code) v v) (sym c.in-Refused.is) refl
