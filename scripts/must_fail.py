@@ -4,9 +4,9 @@
   scripts/must_fail.py               names the crates whose edits are not recorded as refused on the text that stands here
   scripts/must_fail.py try [NAME..]  tries those, or the named ones, and records each crate whose edits were all refused
 
-What an edit comes to follows from the toolchain, the crate's text and that of the crates below it, but not from comments. The
-record, scripts/must_fail.txt, has the sum of all these for each crate, as it was when its edits were last all refused. Any other
-change changes the sum, and the edits are tried again.
+What an edit comes to follows from the toolchain, the crate's text and what a check reads of the crates below it, but not from
+comments. The record, scripts/must_fail.txt, has the sum of all these for each crate, as it was when its edits were last all
+refused. Any other change changes the sum, and the edits are tried again.
 """
 
 import hashlib
@@ -16,6 +16,7 @@ import subprocess
 import sys
 
 sys.dont_write_bytecode = True
+from interfaces import read_above
 from surface import dependencies
 
 RECORD = "scripts/must_fail.txt"
@@ -34,13 +35,13 @@ def sum_of(*parts):
     return hashlib.sha256(repr(parts).encode()).hexdigest()
 
 
-def without_comments(name, data):
-    """The bytes of a file without its comments and empty lines, on which no proof rests."""
+def without_comments(name, text):
+    """The text of a file without its comments and empty lines, on which no proof rests."""
     comment = COMMENTS.get(os.path.splitext(name)[1])
     if comment is None:
-        return data
-    lines = comment.sub(lambda it: it[1] or "", data.decode()).splitlines()
-    return "\n".join(it.rstrip() for it in lines if it.strip()).encode()
+        return text
+    lines = comment.sub(lambda it: it[1] or "", text).splitlines()
+    return "\n".join(it.rstrip() for it in lines if it.strip())
 
 
 def texts_below(folder):
@@ -62,14 +63,17 @@ def sums():
     def below(name):
         return {it for dep in lines[name] if dep in lines for it in [dep, *below(dep)]}
 
-    def of_crate(name):
-        texts = [it for part in ("src", "specs", "proofs") for it in texts_below(f"crates/{name}/{part}")]
-        return sum_of(name, lines[name], [(it, without_comments(it, text)) for it, text in texts])
+    def texts(name):
+        found = [it for part in ("src", "specs", "proofs") for it in texts_below(f"crates/{name}/{part}")]
+        return [(it, without_comments(it, data.decode())) for it, data in found]
 
-    own = {name: of_crate(name) for name in lines}
+    own = {name: texts(name) for name in lines}
+    above = {name: sum_of(name, lines[name], read_above(own[name])) for name in lines}
     with_edits = [name for name in lines if os.path.isdir(f"crates/{name}/must-fail")]
     return {
-        it: sum_of(kit, handles, own[it], sorted(own[dep] for dep in below(it)), texts_below(f"crates/{it}/must-fail"))
+        it: sum_of(
+            kit, handles, own[it], sorted(above[dep] for dep in below(it)), texts_below(f"crates/{it}/must-fail")
+        )
         for it in with_edits
     }
 

@@ -9,6 +9,7 @@ from unittest import mock
 
 sys.dont_write_bytecode = True
 import gate
+import interfaces
 import must_fail
 import must_fail_groups as groups
 
@@ -90,13 +91,38 @@ def comments():
         ("A.antt", "-- of a\na-b : A\n  -- of b\na-b = a --b\n", "a-b : A\na-b = a --b"),
         ("a.edit", "new: // a\n", "new: // a\n"),
     ]:
-        if (left := must_fail.without_comments(name, text.encode()).decode()) != wanted:
+        if (left := must_fail.without_comments(name, text)) != wanted:
             yield f"{text!r} is {left!r} without comments"
+
+
+def reads():
+    """What is wrong with what is taken to be read by the checks above a crate."""
+
+    def read(code, *others):
+        return interfaces.read_above([("crates/light/src/lib.rt", must_fail.without_comments("lib.rt", code)), *others])
+
+    private = "fn half(level: u8) -> u8 {\n    level / 2\n}\n\npub fn same"
+    for is_read, old, new in [
+        (False, *REFUSED),
+        (False, *HARMLESS),
+        (False, "pub fn same", private),
+        (False, "pub fn same", "#[tactic(auto, using(crate::proofs::Levels::same))]\npub fn same"),
+        (True, *OUTSIDE),
+        (True, "{ result ≡ level }", "{ result ≤ level }"),
+        (True, "pub fn same(level: u8)", "pub fn same(other: u8)"),
+        (True, "pub fn same", f"pub {private}"),
+        (True, "    None\n}", "None\n}"),
+    ]:
+        if (read(CODE) != read(CODE.replace(old, new))) != is_read:
+            yield f"{old!r} made {new!r} is read above a crate, or {'ought to be' if is_read else 'ought not'}"
+    for is_read, name in [(False, "light/raised/Answers"), (True, "Levels"), (True, "light/Levels")]:
+        if (read(CODE) != read(CODE, (f"crates/light/proofs/{name}.antt", "pub a : A"))) != is_read:
+            yield f"proofs/{name}.antt is read above a crate, or {'ought to be' if is_read else 'ought not'}"
 
 
 def faults():
     """What is wrong with the trier, with the choice and with the sums: nothing, if all is well."""
-    found = [*draws(), *comments()]
+    found = [*draws(), *comments(), *reads()]
 
     def expect(what, told, *wanted):
         if len(told) != len(wanted) or any(a != b or words not in text for (a, text), (b, words) in zip(told, wanted)):

@@ -285,7 +285,8 @@ class Serving(unittest.TestCase):
     def counted(self):
         script = self.script()
         found = int(asked(script, lambda session: session.query("for c in (c) return max(c)")))
-        self.assertEqual(script.stop()[0], 0)
+        status, said = script.stop()
+        self.assertEqual(status, 0, said)
         return found
 
     def write(self, script, known, done):
@@ -307,9 +308,10 @@ class Serving(unittest.TestCase):
         except Ended as ended:
             status, said = ended.args
         else:
-            self.assertEqual(script.stop()[0], 0)
+            status, said = script.stop()
+            self.assertEqual(status, 0, said)
             return False
-        self.assertEqual(status, 3)
+        self.assertEqual(status, 3, said)
         command = re.search(r"closed at \d{4}-\d\d-\d\d \d\d:\d\d:\d\d\. To go on from it: (mv '.*' '.*')\n", said)
         self.assertIsNotNone(command, said)
         subprocess.run(command[1], shell=True, check=True)
