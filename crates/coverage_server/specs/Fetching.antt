@@ -51,7 +51,7 @@ most_of_plan plan = sum_by (bound plan) (boxes plan)
 abbrev pub FetchesBoxes : PlanTree → ServerView → ServerView → Type 0
 FetchesBoxes plan old new = new.fetched ≤ old.fetched + most_of_plan plan
 
--- no more tiles were fetched than the boxes of a plan of the query bound together
+-- no more tiles were fetched than the sum of the bounds of the boxes of a plan of the query
 abbrev pub FetchesPlan : TypedTree → ServerView → ServerView → Type 0
 FetchesPlan q old new = (plan : PlanTree) × IsPlanOf q plan × FetchesBoxes plan old new
 
@@ -63,7 +63,8 @@ FetchesText text old new = (q : TypedTree) × TextTyped old.store text (Ok q) ×
 abbrev pub FetchesTemplate : Template → ServerView → ServerView → Type 0
 FetchesTemplate template old new = (text : List ℕ) × (expansion template old.store ≡ Ok text) × FetchesText text old new
 
--- no more tiles were fetched than the boxes of those units bound together that the job with a number has done meanwhile
+-- no more tiles were fetched than the sum of the bounds of the boxes of those units that the job with a number has done
+-- meanwhile
 abbrev pub FetchesUnits : ℕ → SessionView → SessionView → Type 0
 FetchesUnits number old new =
     IsChanged (λ was is. new.coverages.fetched ≤ old.coverages.fetched + most_fetched was.exec is.exec) number
@@ -95,8 +96,8 @@ abbrev pub FetchesForJob : {A : Type 0} → ℕ → ServerView → DeskView → 
 FetchesForJob number old desk new later result =
     UnlessFails result (FetchesNone old new ⊎ FetchesUnits number (session old desk) (session new later))
 
--- Nine requests fetch no tile. A query and the units of a job that are done fetch no more than their boxes bound
--- together; a query whose text is refused, a number of no job, and a job without units left fetch none.
+-- Nine requests fetch no tile. A query and the units of a job that are done fetch no more than the sum of the bounds of
+-- their boxes; a query whose text is refused, a number of no job, and a job without units left fetch none.
 abbrev pub FetchesBounded : Asks → Reply → SessionView → SessionView → Type 0
 FetchesBounded (insert_coverage name intervals fields) reply old new = FetchesNone old.coverages new.coverages
 FetchesBounded (update_coverage name field intervals cells) reply old new = FetchesNone old.coverages new.coverages

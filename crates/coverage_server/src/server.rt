@@ -120,8 +120,8 @@ impl<D: Disk> Server<D> {
     /// indexes, the jobs and what is held for them as they were on any disk, but that a step that is refused may have
     /// done units that its job still shows as left, and that a job whose answer is the fault that is told is fetched.
     /// The coverages are those of a catalogue. Coverages are held for exactly the jobs that have units left. Tiles are
-    /// fetched for ProcessCoverages, ProcessTemplate and StepJob alone: no more than the boxes of the query's plan, or
-    /// of the units that were done, bound together, unless it fails.
+    /// fetched for ProcessCoverages, ProcessTemplate and StepJob alone: no more than the sum of the bounds of the boxes of
+    /// the query's plan, or of the units that were done, unless it fails.
     pub fn answer(&mut self, request: &Request) -> Reply
         ensures step { Refines (λ p q. Steps (asks request.now) self.old p result q) self.old self.new }
         ensures catalogue { IsCatalogue (signatures_of self.old.coverages.store) }
