@@ -1,14 +1,14 @@
 #!/usr/bin/env python3
 """Sessions of the built program on a file that cannot grow past a limit, and what the next run finds.
 
-usage: bench/full_disk.py
+usage: bench/full_disk.py PROGRAM
 
-Each session inserts five coverages of 2,000 cells of i64 and writes all their cells, so that the file would take 27
+Each session inserts five coverages of 2,000 cells of i64 and writes all their cells, so that the file would take 22
 blocks. It runs with a limit on the size of its files, at 56 places from 8 KiB to 64 KiB at and around the bounds of
 blocks; the signal of that limit is ignored, so that the system cuts a write short and then refuses it, as a full disk
 does. Where the session ends with status 0, the next run, without a limit, has to find each coverage whose insertion
-was answered with ok, and in it the cells of each update that was; any other status has to be told on a line. Prints
-how the sessions ended, and ends with status 1 where something was lost. `rt run` in crates/rasterd builds the program.
+was answered with ok, and in it the cells of each update that was; any other session has all replies, and ends as one that
+was not closed for a disk fault. Prints how the sessions ended, and ends with status 1 where something was lost.
 """
 import os
 import resource
@@ -17,8 +17,6 @@ import subprocess
 import sys
 import tempfile
 
-TOP = os.path.dirname(os.path.dirname(os.path.abspath(__file__)))
-PROGRAM = f"{TOP}/crates/rasterd/out/rasterd"
 BLOCK = 4096
 CELLS = 2000
 NAMES = [f"c{number}" for number in range(5)]
@@ -45,7 +43,7 @@ def bodies(replies):
     return found
 
 
-def run(path, requests, limit=None):
+def run(program, path, requests, limit=None):
     """The status of a run, its replies, and what it told of errors."""
 
     def limited():
@@ -53,7 +51,7 @@ def run(path, requests, limit=None):
         resource.setrlimit(resource.RLIMIT_FSIZE, (limit, limit))
 
     ended = subprocess.run(
-        [PROGRAM, path, "run"],
+        [program, path, "run"],
         input="".join(message(pairs) for pairs in requests).encode(),
         capture_output=True,
         restore_signals=False,
@@ -63,21 +61,22 @@ def run(path, requests, limit=None):
     return ended.returncode, bodies(ended.stdout.decode()), ended.stderr.decode().strip()
 
 
-def lost(path, limit):
+def lost(program, path, limit):
     """How a session with a limit ended, and what of it the next run does not find."""
     writes = []
     for number, name in enumerate(NAMES):
         writes.append(f"InsertCoverage&coverage={name}&domain=x(0:{CELLS - 1})&fields=v:i64")
         writes.append(f"UpdateCoverage&coverage={name}&field=v&box=x(0:{CELLS - 1})&values={cells(number)}")
-    status, replies, told = run(path, writes, limit)
+    status, replies, told = run(program, path, writes, limit)
     if status != 0:
-        return (status, told), [] if told and len(replies) in (0, len(writes)) else ["nothing was told"]
+        is_told = (status, told) == (4, "not closed: 91 DiskFault") and len(replies) == len(writes)
+        return (status, told), [] if is_told else ["another end"]
     if len(replies) != len(writes):
         return (status, "closed"), ["replies"]
     inserted = [replies[2 * number][0] == 200 for number in range(len(NAMES))]
     written = [replies[2 * number + 1][0] == 200 for number in range(len(NAMES))]
     asks = [f"ProcessCoverages&query=for+c+in+({name})+return+encode(c,+csv)" for name in NAMES]
-    again, answers, error = run(path, asks)
+    again, answers, error = run(program, path, asks)
     if again != 0 or len(answers) != len(asks):
         return (status, "closed"), [f"the store: {again} {error}"]
     missing = []
@@ -90,12 +89,12 @@ def lost(path, limit):
     return (status, f"closed, {sum(written)} updates done"), missing
 
 
-def main():
+def main(program):
     ends = {}
     losses = 0
     with tempfile.TemporaryDirectory() as folder:
         for limit in LIMITS:
-            end, missing = lost(f"{folder}/{limit}.store", limit)
+            end, missing = lost(os.path.abspath(program), f"{folder}/{limit}.store", limit)
             ends[end] = ends.get(end, 0) + 1
             if missing:
                 losses += 1
@@ -106,4 +105,7 @@ def main():
     sys.exit(1 if losses else 0)
 
 
-main()
+if __name__ == "__main__":
+    if len(sys.argv) != 2:
+        sys.exit(__doc__)
+    main(sys.argv[1])

@@ -44,7 +44,7 @@ class Site:
 
     def __init__(self, folder):
         self.folder = folder
-        self.running = []
+        self.running, self.nginx = [], None
         self.writer, self.front, *self.readers = (free_port() for _ in range(6))
         self.make_certificate()
 
@@ -94,8 +94,9 @@ class Site:
         connected(self.front, self.nginx).close()
 
     def stop_nginx(self):
-        self.nginx.terminate()
-        self.nginx.wait(LONGEST)
+        if self.nginx:
+            self.nginx.terminate()
+            self.nginx.wait(LONGEST)
 
     def stop_servers(self):
         for script in self.running:
@@ -200,9 +201,9 @@ def main():
     seconds = float(sys.argv[1]) if len(sys.argv) > 1 else 5.0
     with tempfile.TemporaryDirectory() as folder:
         site = Site(folder)
-        site.serve("store", site.writer, 50)
-        site.start_nginx(site.readers)
         try:
+            site.serve("store", site.writer, 50)
+            site.start_nginx(site.readers)
             fill(site)
             site.stop_servers()
             for number, port in enumerate(site.readers):

@@ -7,7 +7,8 @@ The actions are those of crates/bench, which `rt run` in its folder builds, on a
 blocks each: windows and numbers at twelve places, each asked again and again (again, point); windows and numbers at
 scattered places of a grid of 4,096 blocks, and the whole of it (window, cell, read); a number written, and the whole
 written, in a grid of 1,024 blocks (put, values). The figure is what one more round takes of the processor, the least of
-so many runs; the runs with and without a pool take turns. The store is made anew in FILE.
+so many runs; the runs with and without a pool take turns. FILE is made anew for
+each run, and is gone afterwards: it must not be there before.
 """
 import os
 import resource
@@ -52,6 +53,8 @@ def main():
     if len(sys.argv) < 2:
         sys.exit(__doc__)
     path = sys.argv[1]
+    if os.path.exists(path):
+        sys.exit(f"{path} is there already")
     times = int(sys.argv[2]) if len(sys.argv) > 2 else 9
     print(f"{'a round':8} {'blocks':>6} {'without':>14} {'with a pool':>14} {'ratio':>7}")
     for action, side, rounds in ACTIONS:

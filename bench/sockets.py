@@ -1,7 +1,7 @@
 #!/usr/bin/env python3
 """The built program over loopback: what clients see, and how a run ends.
 
-usage: bench/sockets.py [--silent]
+usage: bench/sockets.py PROGRAM [--silent]
 
 Each case starts the program on a port of its own and a file in a fresh folder, makes its connections, and compares the
 bytes that came back and the status with what they have to be: a client that has shut its writing side before it is
@@ -9,7 +9,7 @@ accepted, 200 connections with three messages each, clients that go away in the 
 on one connection, a message that comes byte by byte, a second run on the same file, a port in use, deploy/serve that is
 stopped, and a second one on its file. With --silent also a client that says nothing, which is let go after 60 seconds: a
 time is looked at there, so that the gate leaves it out. Every wait has an end. Prints a line for each case, and ends
-with status 1 where one went wrong. `rt run` in crates/rasterd builds the program.
+with status 1 where one went wrong.
 """
 import contextlib
 import os
@@ -27,7 +27,7 @@ sys.path.append(f"{TOP}/scripts")
 
 from served import LONGEST, connected, free_port, until
 
-PROGRAM = os.environ.get("SERVER", f"{TOP}/crates/rasterd/out/rasterd")
+PROGRAM = os.path.abspath(sys.argv[1]) if sys.argv[1:] else sys.exit(__doc__)
 LIST = b"GET /ows?request=ListCoverages HTTP/1.1\r\nHost: h\r\n\r\n"
 INSERT = b"GET /ows?request=InsertCoverage&coverage=%s&domain=x(0:99)&fields=v:i16 HTTP/1.1\r\n\r\n"
 FILL = b"GET /ows?request=UpdateCoverage&coverage=%s&field=v&box=x(0:99)&fill=%d HTTP/1.1\r\n\r\n"
@@ -208,7 +208,7 @@ def insert(running, port, name):
 def script(path, port, count):
     """deploy/serve; what is left of it is ended afterwards."""
     words = [f"{TOP}/deploy/serve", path, str(port), str(count)]
-    environment = dict(os.environ, SERVER=PROGRAM)
+    environment = dict(os.environ, SERVER=PROGRAM, KEEP="0")
     with subprocess.Popen(words, env=environment, stderr=subprocess.PIPE, start_new_session=True) as running:
         try:
             yield running
@@ -261,7 +261,7 @@ def main():
     if not os.access(PROGRAM, os.X_OK):
         sys.exit(f"there is no program {PROGRAM}")
     cases = [early_end, many, goes_away, thousand, pieces, second_run, not_opened, stopped, taken]
-    if "--silent" in sys.argv[1:]:
+    if "--silent" in sys.argv[2:]:
         cases.append(silent)
     wrong = 0
     for case in cases:

@@ -3,6 +3,8 @@
 
 usage: bench/store.py [SIDE, else 4096 [FILE for the store, else memory]]
 
+FILE is made anew for each run: it must not be there before.
+
 The actions are those of crates/bench, which `rt run` in its folder builds: the whole grid filled with a number
 that changes in each round (fill), written with noise (values) and read and added (read), and at scattered places a
 window of 64 x 64 read and added, that crosses the edges of four tiles (window), a cell read (cell), and a cell written
@@ -114,6 +116,9 @@ def one_more(action, rounds):
 
 
 def main():
+    for path in FILE:
+        if os.path.exists(path):
+            sys.exit(f"{path} is there already")
     print(f"{f'{SIDE} x {SIDE} i16':16} {'a round':>12} {'cells/s':>14} {'C cells/s':>14} {'to C':>9}")
     for (action, cells, rounds), plain in zip(ACTIONS, figures(LOOPS, str(SIDE))):
         taken = one_more(action, rounds)

@@ -214,6 +214,8 @@ class Trials:
         for count in (1, 40):
             for n in range(self.least, self.numbers["memory"] + 1, self.each):
                 self.tried(f"growths {n} to {n + count - 1} refused", "memory", n, EIO, count, allowed, again=count + 1)
+        if not any(self.counts[f"replies {number}"] for number in allowed):
+            self.fails("all of these", "no growth was refused")
 
     def stream(self):
         """A connection that moves its bytes by halves or one by one is served as ever; one whose call fails ends, after what
@@ -252,12 +254,15 @@ class Trials:
 
 def main(program, *words):
     program = os.path.abspath(program)
-    parts = ["disk", "lies", "memory", "stream"]
-    wrong = 0
+    parts, wrong = ["disk", "lies", "memory", "stream"], 0
+    if unknown := [it for it in words if not it.isdigit() and it not in [*parts, "long", "plain", "empty"]]:
+        sys.exit(f"nothing is called {', '.join(unknown)}\n{__doc__}")
     with shim.library(program) as made, tempfile.TemporaryDirectory() as folder:
         for name in [it for it in parts if it in words] or parts:
             trials = Trials(program, made, folder, words)
             getattr(trials, name)()
+            if not trials.counts["runs"]:
+                trials.fails(name, "nothing was tried")
             told = ", ".join(f"{what}: {times}" for what, times in sorted(trials.counts.items()))
             print(f"{name}: {told}; wrong: {trials.wrong}", flush=True)
             wrong += trials.wrong

@@ -118,7 +118,7 @@ def stopped(program, folder, connections):
         f" wrong replies: {wrong}, lost updates: {lost}, status {status}",
         flush=True,
     )
-    return bool(lacking or wrong or lost or status)
+    return bool(lacking or wrong or lost or status or not times)
 
 
 def two(program, made, folder):
@@ -131,14 +131,17 @@ def two(program, made, folder):
     with open(path, "wb") as file:
         file.write(scripts.lai())
     one = shim.Run(program, path, shim.environment(made, "disk", first_write, shim.STOPPED))
-    ways = os.WSTOPPED | os.WEXITED | os.WNOWAIT | os.WNOHANG
-    until(lambda: os.waitid(os.P_PID, one.process.pid, ways), "the stop of a server")
-    before = shim.Run(program, path, None).end()
-    is_untouched = content_of(path) == scripts.lai()
-    one.process.send_signal(signal.SIGCONT)
-    answered = [one.ask(it) for it in writes("a")]
-    behind = shim.Run(program, path, None).end()
-    ended = one.end()
+    try:
+        ways = os.WSTOPPED | os.WEXITED | os.WNOWAIT | os.WNOHANG
+        until(lambda: os.waitid(os.P_PID, one.process.pid, ways), "the stop of a server")
+        before = shim.Run(program, path, None).end()
+        is_untouched = content_of(path) == scripts.lai()
+        one.process.send_signal(signal.SIGCONT)
+        answered = [one.ask(it) for it in writes("a")]
+        behind = shim.Run(program, path, None).end()
+        ended = one.end()
+    finally:
+        one.process.kill()
     names = names_in(path)
     later = shim.Run(program, path, None).end()
     print(f"two servers on one file: the first {ended}, another before its first write {before}, behind it {behind},")

@@ -34,9 +34,9 @@ from room import meets
 from spoilt import listed_in
 
 DAMAGED = b"refused 93 Damaged\n"
-# how often bytes of a tile are rewritten until it is damaged
 # the most bytes of a body
 MOST_BYTES = 2**20
+# how often bytes of a tile are rewritten until it is damaged
 MOST_TRIES = 50
 LIMIT = 600
 
@@ -298,6 +298,9 @@ def main(program, number="1000", seed="1"):
                 print(f"session {seed}.{k}: {told}", *(it.decode(errors="replace") for it in texts), sep="\n")
                 return 1
     print(f"{number} sessions, none differs; {'; '.join(f'{what}: {times}' for what, times in sorted(met.items()))}")
+    if not met["sessions over damaged tiles"]:
+        print("no tile was damaged")
+        return 1
     return 0
 
 

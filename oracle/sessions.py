@@ -394,6 +394,9 @@ def main(program, sessions="1000", seed="1"):
     counted = ", ".join(f"{'answered' if it == '200' else it}: {times}" for it, times in sorted(numbers.items()))
     print(f"{sessions} sessions, none differs; refusals by number: {counted}")
     print("met:", "; ".join(f"{what}: {times}" for what, times in sorted(met.items())))
+    if not numbers["200"]:
+        print("nothing was answered")
+        return 1
     return 0
 
 

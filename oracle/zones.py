@@ -18,14 +18,13 @@ import sys
 
 sys.dont_write_bytecode = True
 
-import fuzz
-from files import posted
+from files import posted, replies_in
 from language import Refused
 from meaning import Coverage, Fault, answer, count
 
 WIDE = 2**63
-# the independent reading is to count up to any of these queries
-fuzz.MOST_COUNTED = 10**8
+# the most seconds of a run of the program
+LONGEST = 600
 
 
 class Zones:
@@ -208,11 +207,14 @@ def compared(program, most, number, make):
         updates = [it for it in first if "values" in it]
         messages, places = asked(queries, answers, updates)
         sent = b"".join(posted(pairs) for pairs in [*first, *messages])
-        ran = subprocess.run([program, "-", "run"], input=sent, stdout=subprocess.PIPE)
-        bodies = [body.decode() for _, body in fuzz.replies_in(ran.stdout)][-len(messages) :]
-        if len(bodies) != len(messages):
+        ran = subprocess.run([program, "-", "run"], input=sent, capture_output=True, check=False, timeout=LONGEST)
+        bodies = [body.decode() for _, body in replies_in(ran.stdout)][-len(messages) :]
+        if len(bodies) != len(messages) or ran.returncode or ran.stderr:
             wrong += 1
-            print(f"seed {number}: {len(bodies)} replies to {len(messages)} messages, status {ran.returncode}")
+            told = (
+                f"{len(bodies)} replies to {len(messages)} messages, status {ran.returncode}, {ran.stderr.decode()!r}"
+            )
+            print(f"seed {number}: {told}")
         for query, wanted, at in zip(queries, answers, places):
             values += not wanted.startswith("refused")
             for body in (bodies[k] for k in at if k < len(bodies)):

@@ -18,6 +18,9 @@ sys.dont_write_bytecode = True
 from must_fail import closed, recorded, said_by, sum_of, sums, texts_below, tried
 from surface import dependencies
 
+# The most seconds of a trial.
+LONGEST = 1800
+
 
 def minutes():
     """The processor minutes of all that has run so far."""
@@ -92,8 +95,10 @@ def trials(seed):
     yield "sessions over damaged tiles", ["oracle/damaged.py", program, "100", seed], None
     yield "folds by zone", ["oracle/zones.py", program, "200", seed], None
     yield "windows and scattered cells", ["oracle/windows.py", program, "200", seed], None
-    yield "clients that shut, reset, stall and go away", ["bench/sockets.py"], lacking("curl")
-    yield "a device without room", ["bench/full_disk.py"], None
+    yield "clients that shut, reset, stall and go away", ["bench/sockets.py", program], lacking(
+        "curl", "flock", "prlimit"
+    )
+    yield "a device without room", ["bench/full_disk.py", program], None
     yield "the clients and deploy/serve", ["clients/python/test.py", program], lacking("curl", "flock", "prlimit")
     yield "inputs that are changed without end", ["oracle/fuzz.py", program, "20", seed], None
     yield "calls of the system that fail or lie", ["faults/failing.py", program, "disk", "lies", "stream"], None
@@ -116,9 +121,18 @@ def run_trials(seed):
             print(f"{what}: not run, there is no {lacks}", flush=True)
             continue
         words = [shutil.which(command[0]) or os.path.abspath(command[0]), *command[1:]]
-        ran = subprocess.run(words, stdin=subprocess.DEVNULL, capture_output=True, text=True, check=False)
-        print(ran.stdout, ran.stderr, f"{what}: {'failed' if ran.returncode else 'ok'}\n", sep="", end="", flush=True)
-        failed += [what] * (ran.returncode != 0)
+        print(f"{what}:", flush=True)
+        is_well = False
+        try:
+            ran = subprocess.run(
+                words, stdin=subprocess.DEVNULL, capture_output=True, text=True, check=False, timeout=LONGEST
+            )
+            print(ran.stdout, ran.stderr, sep="", end="")
+            is_well = not ran.returncode
+        except subprocess.TimeoutExpired:
+            print(f"it has not ended in {LONGEST} seconds")
+        print(f"{what}: {'ok' if is_well else 'failed'}", flush=True)
+        failed += [what] * (not is_well)
     return failed
 
 

@@ -36,7 +36,8 @@ def connected(port, process=None):
         has_ended = process and process.poll() is not None
         try:
             return socket.create_connection(("127.0.0.1", port), LONGEST)
-        except ConnectionRefusedError:
+        except (ConnectionRefusedError, ConnectionResetError):
+            # reset where what listened ended in that moment
             if has_ended:
                 raise
 

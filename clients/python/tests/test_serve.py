@@ -24,11 +24,11 @@ class Script:
     """deploy/serve in a session of its own, with what it says."""
 
     def __init__(self, file, count, port=None, **environment):
-        self.port = port or free_port()
+        self.file, self.port, self.is_over = file, port or free_port(), False
         words = [f"{TOP}/deploy/serve", file, str(self.port), str(count)]
         self.process = subprocess.Popen(
             words,
-            env={**os.environ, "SERVER": PROGRAM, **environment},
+            env={**os.environ, "KEEP": "0", "SERVER": PROGRAM, **environment},
             stderr=subprocess.PIPE,
             text=True,
             start_new_session=True,
@@ -48,6 +48,7 @@ class Script:
     def ended(self):
         """Its status, and what it said."""
         _, said = self.process.communicate(timeout=LONGEST)
+        self.is_over = True
         return self.process.returncode, said
 
     def stop(self, number=signal.SIGTERM):
@@ -55,10 +56,14 @@ class Script:
         return self.ended()
 
     def kill(self):
-        """Kills it and all that it has started."""
-        with contextlib.suppress(ProcessLookupError):
-            os.killpg(self.process.pid, signal.SIGKILL)
-        return self.ended()
+        """Kills it and all that it has started, until none of these has a lock; once it has ended nothing is left."""
+        if not self.is_over:
+            with contextlib.suppress(ProcessLookupError):
+                os.killpg(self.process.pid, signal.SIGKILL)
+            self.ended()
+            for name in (f"{self.file}.lock", self.file):
+                if os.path.isfile(name):
+                    subprocess.run(["flock", name, "true"], timeout=LONGEST, check=True)
 
 
 class Ended(AssertionError):
@@ -235,8 +240,8 @@ class Serving(unittest.TestCase):
             insert(script, f"d{keep}")
             self.assertEqual(os.path.exists(copy) and os.stat(copy).st_mtime_ns != before, is_renewed)
             self.assertEqual(script.stop()[0], 0)
-            self.assertEqual(sorted(os.listdir(self.folder))[0], "a store")
-            self.assertFalse(os.path.exists(f"{copy}.new"))
+            left = {"a store", "a store.lock"} | ({"a store.closed"} if is_there else set())
+            self.assertEqual(set(os.listdir(self.folder)), left)
 
     def test_a_file_that_was_left_open_is_not_copied(self):
         self.killed(3, lambda script: insert(script, "late"))
