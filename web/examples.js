@@ -28,7 +28,7 @@ function ofBooleans(name, cells) {
   return [
     ["how many are true", () => `for c in (${name})\nreturn count(${cells})`],
     ["whether some are, and whether all", () => `for c in (${name})
-return encode({some: some(${cells}); all: all(${cells})}, csv)`],
+return encode({any: some(${cells}); every: all(${cells})}, csv)`],
   ];
 }
 

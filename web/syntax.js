@@ -86,7 +86,8 @@ class Parser {
   }
 
   fails(wanted) {
-    const token = this.next, instead = token?.kind === "word" && INSTEAD[token.value.toLowerCase()];
+    const token = this.next, isFunction = wanted === "an expression" || wanted.startsWith("one of the functions");
+    const instead = isFunction && token?.kind === "word" && INSTEAD[token.value.toLowerCase()];
     const found = token ? `\`${token.value}\` does not fit here` : "The text ends too early";
     const advice = instead ? `write ${instead}.` : `${wanted} is wanted.`;
     throw new Fault(`${found}: ${advice}`, token?.from ?? this.end, token?.to ?? this.end);

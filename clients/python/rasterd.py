@@ -63,9 +63,13 @@ def cell_text(cell):
     """The text of a cell: `true` or `false` of a Boolean, numpy's too, else the number, which has to be whole."""
     if isinstance(cell, bool) or type(cell).__name__ in ("bool_", "bool"):
         return "true" if cell else "false"
-    if int(cell) != cell:
-        raise ValueError(f"a cell of {cell} is not whole")
-    return str(int(cell))
+    try:
+        whole = int(cell)
+    except (TypeError, ValueError, OverflowError):
+        whole = None
+    if whole is None or whole != cell:
+        raise ValueError(f"{cell!r} is no cell: cells are whole numbers and Booleans")
+    return str(whole)
 
 
 def texts_of(cells):
@@ -89,10 +93,23 @@ def longest_of(cells):
 def flat(values):
     """The cells of nested sequences, or of an array, in row-major order."""
     for value in values.flat if hasattr(values, "flat") else values:
-        if isinstance(value, (list, tuple)):
+        if isinstance(value, (list, tuple)) or getattr(value, "shape", ()):
             yield from flat(value)
         else:
             yield value
+
+
+def arranged(values):
+    """What cells are given in, as an array of numpy where it can be one, else as a list. Masked cells are none."""
+    if hasattr(values, "filled") and values.mask.any():
+        raise ValueError(
+            "cells are masked: give values.filled(0), and write ~values.mask into a Boolean field beside it"
+        )
+    if hasattr(values, "__array__"):
+        import numpy
+
+        return numpy.asarray(values)
+    return list(values)
 
 
 def shape_of(values):
@@ -237,7 +254,7 @@ class Session:
     def fill(self, coverage, field, cell, box=None):
         """Gives all cells of a box, or of the whole coverage, one value."""
         with self:
-            box = interval_list(box or self.describe(coverage)[0])
+            box = interval_list(self.describe(coverage)[0] if box is None else box)
             self.request("UpdateCoverage", coverage=coverage, field=field, box=box, fill=cell_text(cell))
 
     def write(self, coverage, field, values, box=None, progress=None):
@@ -246,8 +263,8 @@ class Session:
         several, each of whole rows along the first axis or parts of them; `progress` is called with the cells that are
         written and all that there are. Where a request is refused, the parts before it have been written."""
         with self:
-            box = box or self.describe(coverage)[0]
-            values = values if hasattr(values, "shape") else list(values)
+            box = self.describe(coverage)[0] if box is None else box
+            values = arranged(values)
             cells, points = in_a_row(values), points_of(box)
             if len(cells) != points:
                 raise ValueError(f"the box has {points} cells, and {len(cells)} are given")

@@ -58,18 +58,22 @@ def zonal(session, layer, zones, operation="sum"):
     rounded down. Zones are asked from the least to the greatest: number them without large gaps."""
     (bind, c), (of_zones, z) = expression("c", layer), expression("z", zones)
     lowest, highest = ends(session, layer)
-    value = {
+    values = {
         "sum": f"add({c} * ({z} = $k))",
         "mean": f"add({c} * ({z} = $k))",
         "count": f"count({z} = $k)",
         # no zone is without points: those outside of it count as the least, or as the greatest
         "max": f"max(({c} - ({lowest})) * ({z} = $k)) + ({lowest})",
         "min": f"{highest} - max(({highest} - {c}) * ({z} = $k))",
-    }[operation]
+    }
+    if operation not in values:
+        raise ValueError(f"`{operation}` is none of {', '.join(values)}")
 
     def query(low, high):
         over = f"coverage t over $k zone({low}:{high}) values"
-        return f"for {bind}, {of_zones} return encode({{n: {over} count({z} = $k); v: {over} {value}}}, csv)"
+        return (
+            f"for {bind}, {of_zones} return encode({{n: {over} count({z} = $k); v: {over} {values[operation]}}}, csv)"
+        )
 
     low, high = ends(session, zones)
     found = table(session, rasterd.points_of(box_of(session, layer)), (low, high), query)

@@ -67,7 +67,9 @@ class Part:
 
 
 def session(server):
-    host, port = server.rsplit(":", 1)
+    host, _, port = server.strip().rpartition(":")
+    if not host or not port.isdigit():
+        raise ValueError(f"`{server}` is not host:port, as 127.0.0.1:8080")
     return rasterd.Session(host, int(port), timeout=SILENCE)
 
 
@@ -177,7 +179,11 @@ def coverages_of(server, name):
     try:
         with session(server) as it:
             listed = it.list()
-            own = [name] if name in listed else [other for other in listed if re.fullmatch(name + r"(_\d+)+", other)]
+            own = (
+                [name]
+                if name in listed
+                else [other for other in listed if re.fullmatch(re.escape(name) + r"(_\d+)+", other)]
+            )
             described = {coverage: it.describe(coverage) for coverage in own}
     except OSError as fault:
         raise NoAnswer(f"no answer from {server}: which part of {name} it has is not known ({fault})") from fault
@@ -381,6 +387,11 @@ def cut(domain, count):
 def make(servers, name, domain, fields, patience=PATIENCE):
     """A raster of zeros, cut over some servers, which get its parts in turn."""
     boxes = list(cut(domain, len(servers)))
+    if len(boxes) < len(servers):
+        left = ", ".join(servers[len(boxes) :])
+        tell(
+            f"{name} has {len(boxes)} parts, of whole tiles: {left} has none, and is not named when the raster is opened"
+        )
     parts = []
     for k, (place, box) in enumerate(boxes):
         coverage = name if len(boxes) == 1 else "_".join([name, *map(str, place)])

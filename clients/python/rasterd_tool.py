@@ -3,6 +3,7 @@
 import argparse
 import contextlib
 import http.client
+import os
 import signal
 import sys
 
@@ -20,6 +21,17 @@ def words(doc):
 def session(given):
     # longer than the longest query works
     return rasterd.Session(given.host, given.port, timeout=900)
+
+
+def put(text):
+    """Writes to standard output, or ends the program where that fails: in silence where nobody reads any more."""
+    try:
+        sys.stdout.write(text)
+        sys.stdout.flush()
+    except OSError as fault:
+        # what is still to be written is not tried again at the end
+        os.dup2(os.open(os.devnull, os.O_WRONLY), sys.stdout.fileno())
+        sys.exit(1 if isinstance(fault, BrokenPipeError) else f"standard output: {fault.strerror}")
 
 
 @contextlib.contextmanager

@@ -228,7 +228,9 @@ def hint(parser, at):
 
 def of_words(parser, at, word, before, after):
     """The same of a word that is none here, or of one after which an operator is missing."""
-    is_called = word == "(" and re.fullmatch(r"[A-Za-z_]\w*", before) and before.lower() not in language.KEYWORDS
+    # whether an expression ends here, so that an operator or a call could stand
+    ends = any(end == at for _, (_, end) in parser.stand.values())
+    is_called = ends and word == "(" and re.fullmatch(r"[A-Za-z_]\w*", before)
     name, called = (before, at - 1) if is_called else (word, at)
     if SAME.get(name.lower()) and (is_called or after == "("):
         return f"it is called `{SAME[name.lower()]}` here", called
@@ -239,11 +241,9 @@ def of_words(parser, at, word, before, after):
         return f"there is no function `{name}`; there are {FUNCTIONS}", called
     if before == ")" and parser.word(at - 2).lower() in ("float", "double", "int", "integer", "char", "short", "long"):
         return "there are no casts: cells are integers and Booleans", at
-    if (
-        re.fullmatch(r"\$?\w+|\)|\]", before)
-        and re.fullmatch(r"\$?\w+", word)
-        and before.lower() not in language.KEYWORDS
-    ):
+    if ends and word.lower() == "where":
+        return "`where` stands before `return`, or behind the iterators of a condenser", at
+    if ends and re.fullmatch(r"\$?\w+", word):
         missing = "an operator is missing; in a form `+` is a space, so let the client encode the text"
         return f"after `{before}` {missing} (curl: --data-urlencode)", at
     return None, at
@@ -263,7 +263,7 @@ def spelled_interval(text):
     name = text.partition("(")[0]
     if name.lower() in language.KEYWORDS:
         return spelled_name(name)
-    return f"{shown(text)} is not spelled `axis(lowest:highest)`, with two whole numbers and no space"
+    return f"{shown(text)} is not spelled `axis(lowest:highest)`, with two whole numbers of 64 bits and no space"
 
 
 def spelled_field(text):
@@ -277,7 +277,7 @@ def spelled_field(text):
 
 
 def spelled_cell(text):
-    return f"{shown(text)} is no cell: whole numbers of 64 bits, `true` or `false`, without a space"
+    return f"{shown(text)} is no cell: whole numbers from -2^63 to 2^63-1, `true` or `false`, without a space"
 
 
 # How a key's value is read, whether it is a list, and what is said of a value, or of an item, that is not read.
@@ -327,6 +327,22 @@ def missing_key(pairs):
     asked = Wanting()
     asked.reply(urllib.parse.urlencode(pairs).encode())
     return f"{pairs['request']} needs {asked.wanted}"
+
+
+def absent(pairs, describe):
+    """Which coverage is not there: of several the first that cannot be described."""
+    if "query" in pairs:
+        found = [name for _, listed in Pointing(str(pairs["query"])).query()[0] for name in listed]
+    else:
+        found = [str(pairs[key]).partition(".")[0] for key in ("coverage", "layer", "second") if key in pairs]
+    for name in found[:-1]:
+        try:
+            describe(name)
+        except Exception:
+            break
+    else:
+        name = found[-1]
+    return f"there is no coverage `{name}`: ListCoverages tells the names, which are case-sensitive"
 
 
 # Updates and templates
@@ -485,6 +501,14 @@ def coverage_of(axes, fields):
     return meaning.Coverage([(name, *bounds) for name, bounds in axes.items()], list(fields.items()), [])
 
 
+def too_many_cells(pairs):
+    """How to ask for less at a time; a template takes no box."""
+    most = f"at most {meaning.MOST_CELLS:,} cells"
+    if "template" in pairs:
+        return f"a template answers {most}: ExpandTemplate gives its query, which can be asked with smaller bounds after `over`"
+    return f"ask for parts of {most}, as c[y(0:99)]"
+
+
 # All together
 
 ADVICE = {
@@ -493,7 +517,6 @@ ADVICE = {
     11: "requests are InsertCoverage, UpdateCoverage, DeleteCoverage, ListCoverages, DescribeCoverage, ProcessCoverages,"
     " SubmitQuery, StepJob, FetchJob, CancelJob, ExpandTemplate, ProcessTemplate",
     13: "a key is given twice, perhaps in another case of its letters",
-    20: "ListCoverages tells the names, which are case-sensitive",
     21: "take another name, or delete the old coverage",
     22: f"a coverage has 1 to {meaning.MOST_AXES} axes, each named once, bounds of 32 bits with the lower one first,"
     f" and at most {meaning.MOST_POINTS:,} points: rasterd-load --parts cuts a larger raster",
@@ -504,11 +527,11 @@ ADVICE = {
     49: "a layer is Boolean: a focal and a zonal template take numbers",
     54: "ask what is the same for all cells first, as avg(c), and write the number into the query; or ask for a smaller box:"
     " zonal, stretch and histogram of rasterd_algebra do so",
-    55: f"ask for parts of at most {meaning.MOST_CELLS:,} cells, as c[y(0:99)]",
     56: f"the `for` list has more than {meaning.MOST_COMBINATIONS} combinations of coverages: ask for some of them at a time",
     60: "a number leaves 64 bits",
     61: "exclude the zeros: `c / (d + (d = 0))`, or condense `where d != 0`",
-    62: "`and` asks both sides: put the test into the `where` of a condense, or trim first",
+    62: "the position of a slice is outside of its axis; `and` asks both sides, so put a test into the `where` of a condense,"
+    " or trim first",
     63: "a `condense` of `max` or `min` had no points, as its `where` was true nowhere: ask count(..) first, or leave empty"
     " zones out",
     64: "a bit's place is within 0 to 63",
@@ -526,10 +549,12 @@ ADVICE = {
 # What is said of a request, by its pairs and by what gives the axes and the fields of a coverage.
 TOLD = {
     12: lambda pairs, describe: missing_key(pairs),
+    20: absent,
     14: lambda pairs, describe: bad_key(pairs),
     24: outside,
     25: lambda pairs, describe: other_count(pairs),
     26: out_of_range,
+    55: lambda pairs, describe: too_many_cells(pairs),
     42: lambda pairs, describe: f"the fields are {names(describe(pairs['coverage'])[1])}",
     81: bad_parameter,
 }

@@ -169,7 +169,12 @@ def field_types(dataset):
     kinds = {}
     for name, it in dataset.data_vars.items():
         if it.dtype.name not in FIELDS:
-            raise TypeError(f"no field type holds {name}, which is of {it.dtype.name}: scale and round it first")
+            way = (
+                "scale and round it first"
+                if it.dtype.kind == "f"
+                else "make whole numbers of it, as by .astype('int64')"
+            )
+            raise TypeError(f"no field type holds {name}, which is of {it.dtype.name}: {way}")
         if it.dims != next(iter(dataset.data_vars.values())).dims:
             raise ValueError(f"{name} has the axes {it.dims}, and a coverage has the same for all its fields")
         refuse_marks(name, it)
@@ -184,9 +189,15 @@ def to_rasterd(data, url, patience=rasterd_parts.PATIENCE):
     if isinstance(data, xarray.DataArray):
         # an array of dask lends its array a name that no field may have
         data = data.to_dataset(name=data.name if str(data.name).isidentifier() and data.name else "v")
+    if not isinstance(data, xarray.Dataset) or not data.data_vars:
+        raise TypeError("what is written is a dataset of xarray with variables, or a data array")
     servers, name = places(url)
     fields = field_types(data)
     first = next(iter(data.data_vars.values()))
+    if not 1 <= len(first.dims) <= len(rasterd_parts.TILE) or not first.size:
+        raise ValueError(
+            f"a coverage has 1 to {len(rasterd_parts.TILE)} axes, none of which is empty, and not {dict(first.sizes)}"
+        )
     domain = {axis: bounds(first.coords.get(axis), size) for axis, size in zip(first.dims, first.shape)}
     lost = [str(it) for it in data.coords if it not in domain or not is_counted(data.coords[it])]
     if lost:

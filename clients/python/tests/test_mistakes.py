@@ -43,6 +43,11 @@ TEXTS = [
     ),
     ("for c in (hill) return encode(c", "1:32: the text ends too soon; here could stand `,`"),
     ("for c in hill return max(c)", "1:10: `hill` does not fit; here could stand `(`"),
+    ("for c (hill) return 1", "1:7: `(` does not fit; here could stand `in`"),
+    (
+        "for c in (hill) return max(c) where c > 1",
+        "1:31: `where` does not fit: `where` stands before `return`, or behind",
+    ),
     ("for c in (hill) return 9223372036854775808", "1:24: a number is at most 9223372036854775807"),
     (f"for c in (hill) return {'-' * 70}1", "nested more than 64 deep"),
     (f"for c in (hill) return {'(' * 513}1{')' * 513}", "more than 512 brackets"),
@@ -88,7 +93,7 @@ TEXTS = [
     ("for c in (hill) where c return 1", "1:23: `c`: a value with axes stands where a scalar must"),
     ("for c in (hill) where max(c) return 1", "1:23: `max(c)`: a number stands where a Boolean must"),
     ("for c in (hill) return max(c / 0)", "61 DivideByZero: exclude the zeros"),
-    ("for c in (hill) return c[y(3), x(0)]", "62 OutOfDomain: `and` asks both sides"),
+    ("for c in (hill) return c[y(3), x(0)]", "62 OutOfDomain: the position of a slice is outside"),
     (
         "for c in (hill) return condense max over $i y(0:2) where false using $i",
         "63 EmptyCondense: a `condense` of `max` or `min` had no points, as its `where` was true nowhere",
@@ -156,7 +161,7 @@ REQUESTS = [
         dict(coverage="a", domain="a(0:1),b(0:1),c(0:1),d(0:1),e(0:1),f(0:1),g(0:1)", fields="v:u8"),
         "22 BadDomain: a coverage has 1 to 6 axes",
     ),
-    ("DeleteCoverage", dict(coverage="Hill"), "20 NoSuchCoverage: ListCoverages tells the names, which are case-sens"),
+    ("DeleteCoverage", dict(coverage="Hill"), "20 NoSuchCoverage: there is no coverage `Hill`: ListCoverages tells"),
     (
         "UpdateCoverage",
         dict(coverage="hill", field="v", box="y(0:0),x(0:1)", values="1," * 600000 + "1"),

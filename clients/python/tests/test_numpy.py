@@ -3,7 +3,7 @@
 import time
 
 import numpy
-from over_loopback import OverLoopback
+from over_loopback import OverLoopback, rasterd
 import rasterd_algebra
 
 
@@ -59,6 +59,27 @@ class Arrays(OverLoopback):
                 numpy.testing.assert_array_equal(
                     session.array("for c in (w) return encode(c, csv)"), [[1, 2, 3], [4, 5, 6]]
                 )
+
+    def test_cells_that_are_none_are_not_written(self):
+        with self.session() as session:
+            session.insert("w", {"y": (0, 0), "x": (0, 2)}, {"v": "i16", "ok": "bool"})
+            for wrong, said in [
+                (numpy.ma.array([1, 2, 3], mask=[False, True, False]), "cells are masked"),
+                (numpy.array([1, 2, numpy.nan]), "nan.* is no cell"),
+                (["7", "8", "9"], "'7' is no cell"),
+                (numpy.array(["2026-01-01"] * 3, "datetime64[D]"), "is no cell"),
+            ]:
+                with self.subTest(said), self.assertRaisesRegex(ValueError, said):
+                    session.write("w", "v", wrong)
+            with self.assertRaisesRegex(ValueError, "cells are masked"):
+                session.write("w", "ok", numpy.ma.array([True, True, True], mask=[False, True, False]))
+            with self.assertRaises(rasterd.Refused):
+                session.fill("w", "v", 7, {})
+            self.assertEqual(session.query("for c in (w) return max(c.v)"), "0\n")
+            for right in [[numpy.array([1, 2, 3])], numpy.matrix([1, 2, 3]), numpy.ma.array([1, 2, 3])]:
+                session.fill("w", "v", 0)
+                session.write("w", "v", right)
+                self.assertEqual(session.query("for c in (w) return encode(c.v, csv)"), "1,2,3\n")
 
     def test_a_write_in_parts(self):
         cells = numpy.arange(700 * 900, dtype=numpy.int64).reshape(700, 900) * 10**12

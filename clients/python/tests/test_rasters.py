@@ -115,7 +115,9 @@ class Rasters(InAFolder):
         self.assertIn("gdal_translate -a_nodata none", said)
         self.assertEqual(self.session().list(), [])
         said = self.loads(source, "dem", "--mask")
-        told = "not kept: place, reference system, no-data, units, descriptions; --geo FILE keeps it for rasterd-get\n"
+        told = (
+            "not kept: place, reference system, no-data, units, descriptions; --geo FILE keeps them for rasterd-get\n"
+        )
         self.assertIn(told, said)
         said = self.loads(source, "dem", "--mask", "--geo", geo, "--replace")
         self.assertNotIn("not kept", said)
@@ -142,6 +144,8 @@ class Rasters(InAFolder):
         )
         gdal.Translate(self.path("wanted.tif"), source, srcWin=[7, 5, 30, 20])
         self.assert_equal_rasters(self.path("wanted.tif"), self.path("a.tif"))
+        self.gets("for c in (dem) return encode(c[x(7:36), y(5:24)], csv)", self.path("c.tif"), "--geo", geo)
+        self.assert_equal_rasters(self.path("wanted.tif"), self.path("c.tif"))
         query = "for c in (dem) return encode(coverage s over $y y(0:5), $x x(0:8) values c[y(6 + 3 * $y), x(9 + 3 * $x)], csv)"
         self.gets(query, self.path("b.tif"), "--geo", geo, "--at", "6,9", "--step", "3")
         answer = gdal.Open(self.path("b.tif"))
@@ -241,7 +245,7 @@ class Faults(InAFolder):
         source = made(self.path("a.tif"), [numpy.ones((3, 4), numpy.uint8)], gdal.GDT_Byte)
         wide = made(self.path("c.tif"), [numpy.ones((3, 4), numpy.complex64)], gdal.GDT_CFloat32)
         two = made(self.path("d.tif"), [numpy.ones((3, 4), numpy.uint8)] * 2, gdal.GDT_Byte)
-        self.loads(source, "a")
+        self.loads(source, "a", "--geo", self.path("geo"))
         with open(self.path("list"), "w", encoding="utf-8") as file:
             file.write("[1]")
         for tool, words, said in [
@@ -251,6 +255,12 @@ class Faults(InAFolder):
             ("rasterd-load", [source, "b", "--fields", "v,w"], "the raster has 1 bands, and 2 names are given"),
             ("rasterd-load", [source, "b", "--geo", self.path("none/geo")], "none/geo.new: No such file or directory"),
             ("rasterd-load", [wide, "b"], "no field type holds cells of CFloat32"),
+            ("rasterd-load", [source, "b", "--geo", self.folder], "is a folder: --geo takes a file"),
+            (
+                "rasterd-get",
+                ["for c in (a) return 1", self.path("b.tif"), "--geo", self.path("geo"), "--step", "0"],
+                "--step 0: a step is 1 or more",
+            ),
             ("rasterd-load", [two, "b", "--fields", "v,v"], "--fields v,v: a name is given twice"),
             ("rasterd-get", ["for c in (none) return 1", self.path("b.tif")], "refused 20 NoSuchCoverage: "),
             ("rasterd-get", ["for c in (a) return sum(c)", self.path("b.tif")], "1:21: `sum` does not fit"),

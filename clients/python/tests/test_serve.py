@@ -221,6 +221,13 @@ class Serving(unittest.TestCase):
         self.assertEqual(status, 5)
         self.assertIn(f"\nserve: port {port} is in use, or not free for ", said)
         self.assertEqual(os.listdir(self.folder).count("picture.tif.closed"), 0)
+        for port, count, said in [
+            ("abc", 1, "PORT is a number from 1 to 65535, and not `abc`"),
+            (65536, 1, "PORT is a number from 1 to 65535, and not `65536`"),
+            (80, 0, "COUNT is a number from 1 to 1000000, and not `0`"),
+            (80, 1000001, "COUNT is a number from 1 to 1000000, and not `1000001`"),
+        ]:
+            self.assertEqual(self.script(count, port=port).ended(), (2, f"serve: {said}\n"))
         for keep in ("often", "08"):
             status, said = self.script(KEEP=keep).ended()
             self.assertEqual((status, said), (2, f"serve: KEEP is `no` or a number of minutes, and not `{keep}`\n"))
@@ -242,6 +249,18 @@ class Serving(unittest.TestCase):
             self.assertEqual(script.stop()[0], 0)
             left = {"a store", "a store.lock"} | ({"a store.closed"} if is_there else set())
             self.assertEqual(set(os.listdir(self.folder)), left)
+
+    def test_a_link_has_its_copy_beside_the_file(self):
+        os.mkdir(f"{self.folder}/links")
+        os.symlink(self.file, f"{self.folder}/links/link")
+        script = self.script(2, file=f"{self.folder}/links/link")
+        for name in "abc":
+            insert(script, name)
+        script.kill()
+        self.assertEqual(os.listdir(f"{self.folder}/links"), ["link"])
+        self.assertIn(
+            f"mv '{self.file}.closed' '{self.file}'", self.script(file=f"{self.folder}/links/link").ended()[1]
+        )
 
     def test_a_file_that_was_left_open_is_not_copied(self):
         self.killed(3, lambda script: insert(script, "late"))
