@@ -22,12 +22,17 @@ def figures(source, *words):
     return [float(word) for word in ended.stdout.split()]
 
 
-def seconds(program, words, rounds):
-    """The processor time of a program, a path and its first words, that is given these words and a number of rounds."""
+def spent(command):
+    """The processor time of a command."""
     begun = resource.getrusage(resource.RUSAGE_CHILDREN)
-    subprocess.run([*program, *words, str(rounds)], capture_output=True, check=True)
+    subprocess.run(command, capture_output=True, check=True)
     ended = resource.getrusage(resource.RUSAGE_CHILDREN)
     return ended.ru_utime - begun.ru_utime + ended.ru_stime - begun.ru_stime
+
+
+def seconds(program, words, rounds):
+    """The processor time of a program, a path and its first words, that is given these words and a number of rounds."""
+    return spent([*program, *words, str(rounds)])
 
 
 def one_more(programs, words, rounds, repeats=7):

@@ -19,10 +19,8 @@ machine does do not count; the programs take turns.
 import argparse
 import contextlib
 import os
-import resource
-import subprocess
 
-from compiled import compiled
+from compiled import compiled, seconds
 
 TOP = os.path.dirname(os.path.dirname(os.path.abspath(__file__)))
 PROGRAM = [f"{TOP}/crates/bench/out/bench", "kernel"]
@@ -166,13 +164,6 @@ int main(int count, char **words) {
     return 1;
 }
 """
-
-
-def seconds(program, case, rounds):
-    begun = resource.getrusage(resource.RUSAGE_CHILDREN)
-    subprocess.run([*program, *case, str(rounds)], capture_output=True, check=True)
-    ended = resource.getrusage(resource.RUSAGE_CHILDREN)
-    return ended.ru_utime - begun.ru_utime + ended.ru_stime - begun.ru_stime
 
 
 def one_more(programs, case):

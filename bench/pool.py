@@ -11,9 +11,9 @@ so many runs; the runs with and without a pool take turns. FILE is made anew for
 each run, and is gone afterwards: it must not be there before.
 """
 import os
-import resource
-import subprocess
 import sys
+
+from compiled import spent
 
 TOP = os.path.dirname(os.path.dirname(os.path.abspath(__file__)))
 PROGRAM = [f"{TOP}/crates/bench/out/bench", "store"]
@@ -33,10 +33,7 @@ ACTIONS = [
 def seconds(path, action, side, rounds, pages):
     if os.path.exists(path):
         os.remove(path)
-    begun = resource.getrusage(resource.RUSAGE_CHILDREN)
-    subprocess.run(PROGRAM + [action, str(side), str(rounds), path] + pages, capture_output=True, check=True)
-    ended = resource.getrusage(resource.RUSAGE_CHILDREN)
-    return ended.ru_utime - begun.ru_utime + ended.ru_stime - begun.ru_stime
+    return spent(PROGRAM + [action, str(side), str(rounds), path] + pages)
 
 
 def one_more(path, action, side, rounds, times):

@@ -16,11 +16,9 @@ fills two blocks. A grid of 4096 x 4096 cells then takes 32 MiB, as a plain arra
 an array, and are compiled here by cc -O2.
 """
 import os
-import resource
-import subprocess
 import sys
 
-from compiled import figures
+from compiled import figures, spent
 
 TOP = os.path.dirname(os.path.dirname(os.path.abspath(__file__)))
 PROGRAM = [f"{TOP}/crates/bench/out/bench", "store"]
@@ -103,10 +101,7 @@ def seconds(action, rounds):
     for path in FILE:
         if os.path.exists(path):
             os.remove(path)
-    begun = resource.getrusage(resource.RUSAGE_CHILDREN)
-    subprocess.run(PROGRAM + [action, str(SIDE), str(rounds)] + FILE, capture_output=True, check=True)
-    ended = resource.getrusage(resource.RUSAGE_CHILDREN)
-    return ended.ru_utime - begun.ru_utime + ended.ru_stime - begun.ru_stime
+    return spent(PROGRAM + [action, str(SIDE), str(rounds)] + FILE)
 
 
 def one_more(action, rounds):

@@ -26,7 +26,7 @@ sys.dont_write_bytecode = True
 
 import sessions
 import store
-from files import content_of, known_tiles, posted, replies_in
+from files import content_of, interval_list, known_tiles, posted, replies_in
 from language import Refused
 from machine import Machine, number_in, served, units_in
 from meaning import Coverage, count, points, rank, submitted
@@ -186,7 +186,7 @@ class Asking(sessions.Session):
 
     def tile_update(self):
         name, field, kind, box = self.of_tile()
-        written = ",".join(f"{axis}({lo}:{hi})" for axis, lo, hi in box)
+        written = interval_list(box)
         pairs = [("request", "UpdateCoverage"), ("coverage", name), ("field", field), ("box", written)]
         if count(box) <= sessions.MOST_LISTED and self.one_in(2):
             return pairs + [("values", ",".join(self.cell(kind) for _ in range(count(box))))]
@@ -199,7 +199,7 @@ class Asking(sessions.Session):
             yield self.message_of(self.insertion())
             for name in set(self.machine.store) - before:
                 c = self.machine.store[name]
-                box = ",".join(f"{axis}({lo}:{hi})" for axis, lo, hi in c.axes)
+                box = interval_list(c.axes)
                 for field, kind in c.fields:
                     pairs = {"request": "UpdateCoverage", "coverage": name, "field": field, "box": box}
                     yield self.message_of(pairs | {"fill": "true" if kind == "bool" else self.chance.choice("1237")})

@@ -14,6 +14,11 @@ def posted(pairs):
     return b"POST /ows HTTP/1.1\r\nContent-Length: %d\r\n\r\n%s" % (len(body), body)
 
 
+def interval_list(axes):
+    """Axes or a box, as a request has them."""
+    return ",".join(f"{axis}({lo}:{hi})" for axis, lo, hi in axes)
+
+
 def content_of(path):
     """The bytes of a file."""
     with open(path, "rb") as file:

@@ -25,7 +25,7 @@ from dataclasses import dataclass
 sys.dont_write_bytecode = True
 
 import store
-from files import content_of, posted
+from files import content_of, interval_list, posted
 from machine import RANGES, served
 from met import Met
 from mutants import Chance
@@ -75,7 +75,7 @@ class Session(Chance):
         return self.chance.choice(makes)()
 
     def insertion(self, name=None):
-        axes = ",".join(f"{axis}({lo}:{hi})" for axis, lo, hi in self.texts.box())
+        axes = interval_list(self.texts.box())
         fields = self.chance.sample(FIELDS, self.chance.choice([1, 1, 2, 3]))
         return self.spoilt(
             {
@@ -95,12 +95,7 @@ class Session(Chance):
             low = self.chance.randint(lo, hi)
             box.append((axis, low, self.chance.randint(low, hi)))
             size *= box[-1][2] - low + 1
-        pairs = {
-            "request": "UpdateCoverage",
-            "coverage": name,
-            "field": field,
-            "box": ",".join(f"{axis}({lo}:{hi})" for axis, lo, hi in box),
-        }
+        pairs = {"request": "UpdateCoverage", "coverage": name, "field": field, "box": interval_list(box)}
         if self.one_in(3) or size > MOST_LISTED:
             pairs["fill"] = self.cell(kind)
         else:

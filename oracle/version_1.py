@@ -21,7 +21,7 @@ from dataclasses import dataclass
 sys.dont_write_bytecode = True
 
 import store
-from files import Asks, content_of, csv_of, posted, replies_in
+from files import Asks, content_of, csv_of, interval_list, posted, replies_in
 from language import Refused
 from meaning import cell_text, count, points, rank
 from runs import run
@@ -101,10 +101,6 @@ def many():
 
 
 FILES = {"one": one, "types": types, "many": many}
-
-
-def interval_list(axes):
-    return ",".join(f"{axis}({lo}:{hi})" for axis, lo, hi in axes)
 
 
 def messages(coverages):

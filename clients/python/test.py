@@ -59,6 +59,8 @@ def heed_signals():
 
 def main():
     heed_signals()
+    # as by Ctrl-C, so that what was started is ended
+    signal.signal(signal.SIGTERM, signal.default_int_handler)
     words = argparse.ArgumentParser(description=__doc__, formatter_class=argparse.RawDescriptionHelpFormatter)
     words.add_argument("program")
     words.add_argument("parts", nargs="*", choices=[*PARTS, "all", []], metavar="PART")

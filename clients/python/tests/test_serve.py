@@ -1,5 +1,6 @@
 """deploy/serve: what it says, how it stops, that one serves a file, and that nothing that was closed is lost by a kill."""
 
+import atexit
 import contextlib
 import http.client
 import os
@@ -33,6 +34,8 @@ class Script:
             text=True,
             start_new_session=True,
         )
+        # where the test itself is stopped
+        atexit.register(self.kill)
 
     def session(self):
         return rasterd.Session(port=self.port, timeout=LONGEST)
