@@ -19,6 +19,7 @@ NEEDED = [
     "usr/lib/python3/dist-packages/rasterd.py",
     "usr/share/doc/rasterd/README.md",
     "usr/share/doc/rasterd/examples/nginx.conf",
+    "usr/share/doc/rasterd/examples/nginx-page.conf",
     "usr/share/man/man1/rasterd.1.gz",
     "usr/share/man/man1/rasterd-serve.1.gz",
     "lib/systemd/system/rasterd.service",
