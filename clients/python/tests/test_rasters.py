@@ -277,6 +277,11 @@ class Faults(InAFolder):
             ),
             ("rasterd-get", ["for c in (a) return 1", self.path("b.tif"), "--geo", source], "a.tif is no file of"),
             ("rasterd-get", ["for c in (a) return 300", self.path("b.png")], "a PNG has cells from 0 to 255: ask"),
+            (
+                "rasterd-get",
+                ["for c in (a) return {a: 1; b: 2}", self.path("b.png")],
+                "one field in grey or three in colours, and the answer has 2",
+            ),
         ]:
             with self.subTest(words=words):
                 self.assertIn(said, self.refused(tool, *words))
