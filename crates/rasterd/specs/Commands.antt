@@ -11,9 +11,17 @@ pub record IsNumber (most : ℕ) (text : List ℕ) (number : ℕ) : Type 0 where
   pub some : 1 ≤ number
   pub limit : number ≤ most
 
+-- a port has 16 bits
+abbrev pub max_port : ℕ
+max_port = 65535
+
+-- the most connections of a run
+abbrev pub max_connections : ℕ
+max_connections = 1000000
+
 -- `FILE run`, or `FILE listen PORT COUNT`
 abbrev pub Asks : List (List ℕ) → Command → Type 0
 Asks words (Run file) = words ≡ file.now ∷ codes "run" ∷ []
 Asks words (Listen file port count) =
     (port_text : List ℕ) × (count_text : List ℕ) × (words ≡ file.now ∷ codes "listen" ∷ port_text ∷ count_text ∷ [])
-    × IsNumber 65535 port_text port × IsNumber 1000000 count_text count
+    × IsNumber max_port port_text port × IsNumber max_connections count_text count

@@ -8,7 +8,7 @@ use crate::commands::Command;
 /// The greatest port.
 const MAX_PORT: u32 = 65_535;
 
-/// The most connections of a session.
+/// The most connections of a run.
 const MAX_CONNECTIONS: u32 = 1_000_000;
 
 /// The number that decimal digits alone write, where it is from 1 to `most`.
