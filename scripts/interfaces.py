@@ -22,10 +22,13 @@ def without_bodies(lines):
             elif not line.startswith(f"{function[1]} "):
                 return None
             continue
-        function = FUNCTION.match(line) or function
+        head = FUNCTION.match(line)
+        function = head or function
         if not TACTIC.fullmatch(line) and not (function and function[1] == "" and not function[2]):
             kept.append(line)
-        if function and line.endswith("{") and not line.startswith(f"{function[1]} "):
+        # a body begins behind the head in its line, or in a line that is level with it, behind the parameters or the clauses
+        begins = function and (head or line.startswith((f"{function[1]}{{", f"{function[1]})")))
+        if begins and line.endswith("{"):
             in_body = True
         elif function and line.endswith((";", "{}")):
             function = None

@@ -112,6 +112,7 @@ def reads():
         (True, "pub fn same(level: u8)", "pub fn same(other: u8)"),
         (True, "pub fn same", f"pub {private}"),
         (True, "    None\n}", "None\n}"),
+        (True, "pub fn raised", "pub struct Light {\n    level: u8,\n}\n\npub fn raised"),
     ]:
         if (read(CODE) != read(CODE.replace(old, new))) != is_read:
             yield f"{old!r} made {new!r} is read above a crate, or {'ought to be' if is_read else 'ought not'}"
