@@ -31,7 +31,7 @@ HOMES = {
     "a keyword": {"arr_core/src/keyword.rt", "arr_core/specs/Keywords.antt"},
     "the name of a field type": {"arr_core/src/cell.rt", "arr_core/specs/Cells.antt"},
     "the kind of a field type": {"arr_core/src/cell.rt", "arr_core/specs/Cells.antt"},
-    "a limit": set(),
+    "a limit": REFUSALS,
     "the edge of a tile": {"arr_core/src/tile.rt", "arr_core/specs/Tiles.antt"},
     "the distance of two coordinates": {"arr_core/src/axes.rt", "arr_core/specs/Domains.antt"},
     "an error that is told as want of memory": set(),
@@ -52,10 +52,20 @@ SAYS_REFUSAL = re.compile(
 NUMERAL = re.compile(r"(?<![\w.])(?<!\^ )\d[\d_]*(?!\w)")
 POWER = re.compile(r"(?<!\w)2 \^ (\d+)")
 DEFINED = re.compile(r"(max_\w+) = (.*)")
-# What a clause or a definition compares with, and code the length of a list; a number in a sum or a product is another one.
+# What a clause, a definition or code compares with; a number in a sum or a product is another one.
 CLAUSE = re.compile(r" *(?:requires|ensures|ghost)\b")
-COMPARED = re.compile(r"[≤<] (\d+)\b(?! [\^*+-])|(?<![\^*+-] )(?<![\w.])(\d+) [≤<]")
-COUNTED = re.compile(r"\.len\(\) (?:[<>]=?|[=!]=) (\d+)\b")
+COMPARED = re.compile(
+    "|".join(
+        [
+            r"[≤<]ℤ? (?:pos )?(\d+)\b(?! [\^*+-])",
+            r"(?<![\^*+-] )(?<![\w.])(\d+) [≤<]",
+            r"\bnat_l[et] (?:[\w.]+|\([^()]*(?:\([^()]*\)[^()]*)*\)) (\d+)\b",
+            r"\bnat_l[et] (\d+)\b",
+            r"\bnegsuc (\d+)\b",
+        ]
+    )
+)
+COUNTED = re.compile(r"(?<![=-])(?:[<>]=?|[=!]=) (\d[\d_]*)\b(?! [*+-])")
 LITERAL = re.compile(r'"(\w+)"')
 COMMENT = re.compile(r"(^|\s)(//|--)(\s|[/!]|$).*")
 KIND = re.compile(r"\b(FieldType::|kinds?\.)(Bool|U8|I16|I32|I64)\b[^=]*=>? (true|false)\b")
@@ -69,8 +79,9 @@ DISTANCE = re.compile(
 TYPE_NAME = re.compile(r'FieldType::\w+ => "(\w+)",')
 KEYWORD = re.compile(r'Keyword::\w+ => "(\w+)",')
 
-# A number that is two limits, the cells of a tile and the bytes of a block, and the ends of the types of integers.
-SHARED = {4096} | {2**bits - less for bits in (8, 15, 31, 32, 63, 64) for less in (0, 1)} | {2**16 - 1}
+# The ends of the types of integers, and a number that is two limits, the cells of a tile and the bytes of a block.
+ENDS = {2**bits - less for bits in (8, 15, 31, 32, 63, 64) for less in (0, 1)} | {2**16 - 1}
+SHARED = {4096} | ENDS
 
 
 def files(crate, part):
@@ -170,28 +181,45 @@ def owners():
 
 
 @functools.cache
-def few():
-    """Of each crate the numbers from the axes of a domain up to the cells of a tile that its definitions or those below it have a word for."""
-    own = {}
+def limits_below():
+    """Of each crate the numbers past the five ranks of operators that it or one below it has as a limit: a word of its
+    definitions, or a constant `MAX_..`."""
+    own = {it: set() for it in crates()}
+    for (file, name), value in limits.constants().items():
+        own[file.split("/")[0]] |= {value} if name.startswith("MAX_") else set()
     for crate in crates():
         told = [DEFINED.match(text)[2] for path, _, text in lines(crate) if DEFINED.match(text) and "/specs/" in path]
-        own[crate] = {int(it) for it in told if it.isdigit() and 6 <= int(it) <= 4096}
-    return {it: own[it].union(*(own.get(other, ()) for other in dependencies()[it])) for it in own}
+        own[crate] |= {int(it) for it in told if it.isdigit()}
+    return {
+        it: {n for n in own[it].union(*(own.get(other, ()) for other in dependencies()[it])) if 5 < n} for it in own
+    }
+
+
+@functools.cache
+def constants_beside():
+    """Of each file of code the numbers that its constants are."""
+    found = {}
+    for (file, _), value in limits.constants().items():
+        crate, _, module = file.partition("/")
+        found.setdefault(f"{crate}/src/{module}", set()).add(value)
+    return {path: {it for it in told if 5 < it} for path, told in found.items()}
 
 
 def compared(path, text):
-    """The numbers that a line compares something with, where these are limits."""
-    is_told = path.endswith(".antt") or CLAUSE.match(text)
-    told = [left or right for left, right in COMPARED.findall(text)] if is_told else []
-    return [int(it) for it in told + COUNTED.findall(text)]
+    """The numbers that a line compares something with; in code those that are no end of a type of integers."""
+    if path.endswith(".antt") or CLAUSE.match(text):
+        return [int("".join(it)) for it in COMPARED.findall(text)]
+    return [it for it in map(int, COUNTED.findall(text)) if it not in ENDS]
 
 
 def says_limit(path, text):
-    """Whether a line has a limit as a number: in a crate that has no constant of that value, or one that `few` has in a comparison."""
+    """Whether a line has a limit as a number: in a crate that has no constant of that value, or in a comparison one that the crate
+    or one below it has, or that is a constant of the file."""
     crate = path.split("/")[0]
     found = [number for number, _ in numerals(text)] + [2 ** int(it) for it in POWER.findall(text) if it != "16"]
+    known = limits_below()[crate] | constants_beside().get(path, set())
     return any(crate not in owners()[it] for it in found if it in owners()) or any(
-        it in few()[crate] for it in compared(path, text)
+        it in known for it in compared(path, text)
     )
 
 

@@ -47,9 +47,13 @@ pub record IsCatalogue (signatures : List Signature) : Type 0 where
   pub each : All IsSignature signatures
   pub distinct : AreDistinct (names_of signatures)
 
--- the domains of a file of version 1 have at most four axes
+-- the most axes of a domain in a file of version 1
+abbrev pub max_axes_of_one : ℕ
+max_axes_of_one = 4
+
+-- the domains of a file of version 1 have few axes
 abbrev pub HaveAxesOf : Version → List Signature → Type 0
-HaveAxesOf One signatures = All (λ (s : Signature). length s.domain ≤ 4) signatures
+HaveAxesOf One signatures = All (λ (s : Signature). length s.domain ≤ max_axes_of_one) signatures
 HaveAxesOf Two signatures = Unit {0}
 
 -- the signature with a name

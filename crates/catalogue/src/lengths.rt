@@ -1,6 +1,7 @@
 //! How many bytes the parts of a catalogue are written in.
 
 ghost use Rattle.std.specs.Prelude.{◌≡◌, ℕ, List, ◌+◌, ◌*◌, ◌^◌, ◌≤◌, ◌<◌, length, sum_by, All};
+ghost use Rattle.arr_core.specs.Limits.{max_name, max_axes, max_fields};
 ghost use Rattle.arr_core.specs.Names.{IsName};
 ghost use Rattle.arr_core.specs.Domains.{IsDomain};
 ghost use Rattle.arr_core.specs.Fields.{AreFields, IsField};
@@ -13,7 +14,7 @@ use arr_core::{Axis, Field, Name, Signature};
 #[tactic(auto, using(crate::proofs::Names::name_short))]
 fn name_len(name: &Name) -> u64
     ensures value { result ≡ length (name_bytes name.now) }
-    ensures small { result ≤ 65 }
+    ensures small { result ≤ max_name + 1 }
     ensures named { IsName name.now }
 {
     1 + name.as_str().len() as u64
@@ -46,7 +47,7 @@ impl Measured for Axis {
 
     ghost code = { axis_bytes };
 
-    ghost most = { 73 };
+    ghost most = { max_name + 9 };
 
     #[tactic(auto, using(crate::proofs::ByteCounts::axis_length))]
     fn bytes_len(&self) -> u64 {
@@ -59,7 +60,7 @@ impl Measured for Field {
 
     ghost code = { field_bytes };
 
-    ghost most = { 66 };
+    ghost most = { max_name + 2 };
 
     #[tactic(auto, using(crate::proofs::ByteCounts::field_length))]
     fn bytes_len(&self) -> u64 {
@@ -87,7 +88,7 @@ pub fn signature_len(signature: &Signature) -> u64
     requires axes { 1 ≤ length signature.now.domain }
     requires fields { AreFields signature.now.fields }
     ensures value { result ≡ length (signature_bytes signature.now) }
-    ensures small { result ≤ 1561 }
+    ensures small { result ≤ (max_name + 3) + max_axes * (max_name + 9) + max_fields * (max_name + 2) }
     ensures signature { IsSignature signature.now }
 {
     let axes = signature.domain.axes();

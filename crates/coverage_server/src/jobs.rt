@@ -41,7 +41,7 @@ fn add(text: &mut String, more: &str)
 fn write_job(text: &mut String, number: u64, left: u64)
     requires empty { string_bytes text.old ≡ [] }
     requires len { string_len text.old ≡ 0 }
-    requires room { 96 ≤ string_capacity text.old }
+    requires room { JOB_ROOM ≤ string_capacity text.old }
     ensures { string_bytes text.new ≡ codes "job " ++ decimal number ++ codes " left " ++ decimal left ++ codes "\n" }
 {
     let mut digits = Buffer::new();

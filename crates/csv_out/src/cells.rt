@@ -72,7 +72,7 @@ fn place_before(shape: Shape, place: Place, written: u64) -> Place
 fn mark(shape: Shape, place: Place, written: u64) -> u8
     requires { IsPlace shape written place }
     ensures text { result ∷ [] ≡ separator shape.fields shape.line written }
-    ensures ascii { result < 128 }
+    ensures ascii { result < 2 ^ 7 }
 {
     if place.field != 0 {
         b' '
@@ -135,11 +135,11 @@ fn write_cell(room: &mut [u8], cell: Cell, end: usize) -> usize
 pub fn write_cells(room: &mut [u8; ROOM], shape: Shape, before: u64, cells: &[Cell]) -> usize
     requires fields { 0 < shape.fields }
     requires line { 0 < shape.line }
-    requires few { length cells.now ≤ 128 }
+    requires few { length cells.now ≤ FEW }
     requires before { before + length cells.now < 2 ^ 64 }
     ensures text { drop result room.new ≡ cells_text shape.fields shape.line before cells.now }
     ensures ascii { IsAscii (drop result room.new) }
-    ensures within { result ≤ 2688 }
+    ensures within { result ≤ ROOM }
 {
     let mut left = cells.len();
     let mut at = ROOM;

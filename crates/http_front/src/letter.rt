@@ -18,12 +18,13 @@ pub struct Letter {
 
 impl Model for Letter {
     ghost use Rattle.std.specs.Prelude.{◌≤◌, List, ℕ, take};
+    ghost use Rattle.http_front.specs.declared.letter.TheConstants.{LETTER_LIMIT};
 
     ghost Value = { List ℕ };
 
     ghost view = { λ a. take a.filled a.bytes };
 
-    ghost invariant = { λ a. a.filled ≤ 2048 };
+    ghost invariant = { λ a. a.filled ≤ LETTER_LIMIT };
 }
 
 impl Letter {
@@ -38,14 +39,14 @@ impl Letter {
 
     /// How many more bytes fit.
     fn room(&self) -> usize
-        ensures { result + length self.now ≡ 2048 }
+        ensures { result + length self.now ≡ LETTER_LIMIT }
     {
         LETTER_LIMIT - self.filled
     }
 
     /// Holds these bytes back too.
     fn append(&mut self, bytes: &[u8])
-        requires { length self.old + length bytes.now ≤ 2048 }
+        requires { length self.old + length bytes.now ≤ LETTER_LIMIT }
         ensures { self.new ≡ self.old ++ bytes.now }
     {
         let end = self.filled + bytes.len();

@@ -9,9 +9,13 @@ use Rattle.kvp_front.specs.declared.request.RequestError.TheVariants.{BadValue}
 abbrev pub job_in : List ℕ → Result ℕ RequestError
 job_in text = digits_in (2 ^ 64) text
 
--- a number of units: from 1 to 1000
+-- the most units of one step of a job
+abbrev pub max_units : ℕ
+max_units = 1000
+
+-- a number of units: at least 1
 abbrev pub units_from : ℤ → Result ℕ RequestError
-units_from (pos n) = if nat_lt 0 n && nat_le n 1000 then Ok n else Err BadValue
+units_from (pos n) = if nat_lt 0 n && nat_le n max_units then Ok n else Err BadValue
 units_from (negsuc n) = Err BadValue
 
 -- a signed number that is a number of units

@@ -90,7 +90,7 @@ fn cell_at(bytes: &[u8]) -> Option<(Cell, &[u8])>
 /// How many commas there are among a few bytes.
 #[inline(always)]
 fn commas_among(bytes: &[u8]) -> u8
-    requires { length bytes.now ≤ 128 }
+    requires { length bytes.now ≤ FEW }
     ensures { result ≤ length bytes.now }
 {
     let mut commas = 0;

@@ -3,6 +3,7 @@ use Rattle.std.specs.Prelude.{◌≡◌, ◌≤◌, ℤ, negsuc, pos, ◌≤ℤ�
 use Rattle.arr_core.specs.declared.domain.Axis.{Axis}
 use Rattle.arr_core.specs.declared.signature.Signature.{Signature}
 use Rattle.arr_core.specs.Domains.{AreOrdered}
+use Rattle.arr_core.specs.Limits.{max_bound}
 use Rattle.wcps_types.specs.Typed.{Typed}
 use Rattle.wcps_mean.specs.declared.cell.Outcome.TheVariants.{Value}
 use Rattle.wcps_mean.specs.Meaning.{val}
@@ -26,7 +27,7 @@ ReadsLayers s cells (zonal_on op layer f zones g axes) a b = Reads s a (cells la
 
 -- bounds of 32 bits
 abbrev pub IsSmall : Axis → Type 0
-IsSmall a = (negsuc 2147483647 ≤ℤ a.lo) × (a.hi ≤ℤ pos 2147483647)
+IsSmall a = (negsuc max_bound ≤ℤ a.lo) × (a.hi ≤ℤ pos max_bound)
 
 -- a radius of no more than is allowed, and bounds of 32 bits
 abbrev pub IsBounded : Operation → Type 0

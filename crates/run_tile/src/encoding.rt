@@ -53,7 +53,7 @@ fn encode_runs(
     most: usize,
 ) -> Result<Option<Vec<u8>>, AllocError>
     requires few { length cells.now ≤ max_tile }
-    requires short { most ≤ 32768 }
+    requires short { most ≤ 8 * max_tile }
     requires of_type { All (Fits kind) cells.now }
     ensures runs { IfOk result (AreRunsUpTo kind cells.now most) }
 {
@@ -111,7 +111,7 @@ pub fn encode(alloc: Global, kind: FieldType, cells: &[i64]) -> Result<(Form, Ve
     ensures form { IfOk result (λ it. it.0 ≡ form_of kind cells.now) }
     ensures length { IfOk result (λ it. length it.1.items ≡ tile_size kind cells.now) }
     ensures some { IfOk result (λ it. 1 ≤ length it.1.items) }
-    ensures few { IfOk result (λ it. length it.1.items ≤ 32768) }
+    ensures few { IfOk result (λ it. length it.1.items ≤ 8 * max_tile) }
 {
     if seems_noisy(kind, cells) {
         let bytes = encode_raw(alloc, kind, cells)?;

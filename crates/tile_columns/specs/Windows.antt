@@ -95,6 +95,10 @@ pub record GoesOver (w : Pattern) (envs : List (List ℤ)) (p : Extents) : Type 
   pub columns : p.columns.lo ≤ℤ p.columns.hi
   pub over : map (λ e. numbers_at e (Var w.rows.level ∷ Var w.columns.level ∷ [])) envs ≡ cross (between p.rows.lo p.rows.hi) (between p.columns.lo p.columns.hi)
 
+-- how many cells the halo of windows has at most that are kept in one list
+abbrev pub max_halo : ℕ
+max_halo = 16384
+
 -- how many cells the halo has, and how many places there are
 abbrev pub halo_cells : Window → ℕ
 halo_cells w = extent w.rows.halo * extent w.columns.halo
@@ -105,7 +109,7 @@ window_places w = extent w.rows.places * extent w.columns.places
 -- the halo has few cells, and there are few places
 pub record IsNear (w : Window) : Type 0 where
   pub wide : extent w.columns.halo ≤ max_tile
-  pub many : halo_cells w ≤ 16384
+  pub many : halo_cells w ≤ max_halo
   pub places : window_places w ≤ max_tile
 
 -- a coverage has the field, and two axes, on which the halo lies

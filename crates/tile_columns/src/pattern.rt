@@ -1,7 +1,7 @@
 //! The pattern of a fold of windows: its body is a cell so far away from a place, and its condition says where that cell
 //! lies within bounds.
 
-ghost use Rattle.std.specs.Prelude.{◌≡◌, ◌+◌, ◌≤◌, [], ◌∷◌, IfSome, IsTrue};
+ghost use Rattle.std.specs.Prelude.{◌≡◌, ◌+◌, ◌*◌, ◌≤◌, [], ◌∷◌, IfSome, IsTrue};
 ghost use Rattle.wcps_text.specs.declared.operator.BinaryOperator.TheVariants.{Add};
 ghost use Rattle.wcps_text.specs.declared.operator.UnaryOperator.TheVariants.{Negate};
 ghost use Rattle.wcps_mean.specs.declared.cell.Outcome.TheVariants.{Value};
@@ -230,7 +230,7 @@ fn stands_for(index: Index, level: usize) -> bool
 
 /// Whether indexes are two variables, one level after the other.
 fn are_next(indexes: &[Index], level: usize) -> bool
-    requires { level ≤ 2048 }
+    requires { level ≤ 2 * max_levels }
     ensures { IsTrue result → indexes.now ≡ Var level ∷ Var (level + 1) ∷ [] }
 {
     match indexes {
@@ -246,7 +246,7 @@ fn are_next(indexes: &[Index], level: usize) -> bool
 
 /// Whether a body is the cell of windows, at two variables.
 fn is_cell(body: &Body, pattern: &Pattern, level: usize) -> bool
-    requires { level ≤ 2048 }
+    requires { level ≤ 2 * max_levels }
     ensures { IsTrue result → body_view body.now ≡ cell_tree pattern.now level }
 {
     match body {

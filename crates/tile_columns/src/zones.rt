@@ -40,7 +40,7 @@ const MANY: u64 = 4096;
 /// Whether there are so many pairs of a place and a point of a box.
 fn are_many(places: usize, area: &Domain) -> bool
     requires { places ≤ max_tile }
-    ensures { result ≡ nat_le 4096 (places * count area.now) }
+    ensures { result ≡ nat_le MANY (places * count area.now) }
 {
     places as u64 * area.points() >= MANY
 }

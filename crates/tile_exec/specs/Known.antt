@@ -142,10 +142,14 @@ abbrev pub FetchesBy : {S : Type 0} → Key → ℕ → ℕ → Ghosts S → S �
 FetchesBy k keys folds t old new =
     FetchesAtMost (bound_times keys (body_view k.body.now) + bound_times folds (fold_of k)) (t.state old) (t.state new)
 
+-- how often a key is evaluated besides at the points of an item: at samples of a tile, and twice at the points of a tile
+abbrev pub more_keys : ℕ
+more_keys = 3 * max_tile
+
 -- all that is done with a key at the first tile of a box costs no more than the body at the points of the tile
 pub record Pays (times : ℕ) (area part : List Axis) : Type 0 where
   pub some : 2 ≤ count part
-  pub cheap : count area + 12288 ≤ (count part - 2) * times
+  pub cheap : count area + more_keys ≤ (count part - 2) * times
 
 -- the key of an item of one field without binds
 pub record IsKeyOfItem (i : Item) (part : List Axis) (k : Key) : Type 0 where

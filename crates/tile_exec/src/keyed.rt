@@ -9,7 +9,7 @@ ghost use Rattle.tile_columns.specs.Fields.{HavePlaces};
 ghost use Rattle.tile_columns.specs.Keys.{fold_of};
 ghost use Rattle.tile_columns.specs.Meaning.{IsGroundOf, IsColumnOf};
 ghost use Rattle.tile_exec.specs.Fetching.{as_item, IsPartOver, AreItemColumns, FetchesOver};
-ghost use Rattle.tile_exec.specs.Known.{Knows, KnowsFold, point_of, IsKnownBy, IsKeyedOver, IsKeyedAt, IsTilePart, FetchesBy, Pays, IsKeyOfItem};
+ghost use Rattle.tile_exec.specs.Known.{Knows, KnowsFold, point_of, IsKnownBy, IsKeyedOver, IsKeyedAt, IsTilePart, FetchesBy, more_keys, Pays, IsKeyOfItem};
 ghost use Rattle.tile_exec.specs.Known.{IsColumnBy, IfColumnBy};
 ghost use Rattle.tile_exec.specs.Keyed.{IsKeyedColumn, AreColumnsKnown};
 
@@ -288,7 +288,7 @@ fn keyed_columns<S: Tiles>(
     ensures places { IfOk result (λ x. HavePlaces (length (points at.now.part.now)) x.columns.items) }
     ensures one { IfOk result (λ x. length x.columns.items ≡ 1) }
     ensures reads { Reads S.Tiles result source.old source.new }
-    ensures fetched { OnOk result (FetchesBy key.now (count at.now.area.now + 12288) 2 S.Tiles source.old source.new) }
+    ensures fetched { OnOk result (FetchesBy key.now (count at.now.area.now + more_keys) 2 S.Tiles source.old source.new) }
 {
     let _axes = at.part.axes();
     let found = found_at(buffers, source, ground, key, at)?;

@@ -1,6 +1,6 @@
 //! The loop of a kernel in 32 bits.
 
-ghost use Rattle.std.specs.Prelude.{◌≡◌, ◌≤◌, ◌^◌, length, IfSome, IsTrue};
+ghost use Rattle.std.specs.Prelude.{◌≡◌, ◌-◌, ◌≤◌, ◌^◌, length, IfSome, IsTrue};
 ghost use Rattle.tile_kernel.specs.Columns.{exact_at, AreValues};
 ghost use Rattle.tile_kernel.specs.Narrow.{AreNarrow, AreNarrowOf, IsBound, IsWritten};
 ghost use Rattle.tile_kernel.specs.Tried.{IsTried};
@@ -115,7 +115,7 @@ pub(crate) fn try_bounded<O: NarrowTrial, L: NarrowOperand, R: NarrowOperand>(
 
 /// Whether all values fit 32 bits of which no magnitude is above a bound.
 pub(crate) fn fit_within(bound: u64) -> bool
-    ensures { IsTrue result → bound ≤ 2147483647 }
+    ensures { IsTrue result → bound ≤ 2 ^ 31 - 1 }
 {
     bound <= 2_147_483_647
 }

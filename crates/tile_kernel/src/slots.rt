@@ -134,8 +134,8 @@ fn make_rising(numbers: &mut Vec<i64>)
 fn range(numbers: &[i64]) -> Option<(i64, usize)>
     requires { IsStrictlySortedBy int_cmp numbers.now }
     ensures near { IfSome result (λ r. LieFrom r.0 r.1 numbers.now) }
-    ensures few { IfSome result (λ r. r.1 ≤ 65536) }
-    ensures far { IfNone result ((low : ℤ) → LieFrom low 65536 numbers.now → length numbers.now ≡ 0) }
+    ensures few { IfSome result (λ r. r.1 ≤ MAX_SPAN) }
+    ensures far { IfNone result ((low : ℤ) → LieFrom low MAX_SPAN numbers.now → length numbers.now ≡ 0) }
 {
     if numbers.is_empty() {
         return None;

@@ -37,13 +37,17 @@ quotient x (pos zero) = Fault DivideByZero
 quotient x (pos (suc n)) = ranged (int_div x (pos (suc n)))
 quotient x (negsuc n) = ranged (int_div x (negsuc n))
 
+-- the bits of a number
+abbrev pub number_bits : ℕ
+number_bits = 64
+
 -- bit i of the two's complement of x on 64 bits
 abbrev pub bit_is_set : ℤ → ℕ → Bool
 bit_is_set x i = nat_eq (cast_unsigned w64 x / 2 ^ i % 2) 1
 
--- a bit by its number, which is 0 to 63
+-- a bit by its number, which begins with 0
 abbrev pub bit : ℤ → ℤ → Outcome
-bit x (pos i) = cond (nat_lt i 64) (truth (bit_is_set x i)) (Fault BadBit)
+bit x (pos i) = cond (nat_lt i number_bits) (truth (bit_is_set x i)) (Fault BadBit)
 bit x (negsuc i) = Fault BadBit
 
 -- two truth values that differ

@@ -11,6 +11,9 @@ ghost use Rattle.wcps_mean.specs.Cells.{ranged, truth, quotient, bit, int_eq, ex
 use arr_core::Refusal;
 use wcps_text::{BinaryOperator, UnaryOperator};
 
+/// The bits of a number.
+const BITS: i64 = 64;
+
 /// Why a point has no value.
 #[derive(Clone, Copy, PartialEq, Eq, Debug)]
 pub enum PointFault {
@@ -123,11 +126,11 @@ fn magnitude(x: i64) -> Outcome
     if x < 0 { negate(x) } else { Outcome::Value(x) }
 }
 
-/// Whether a bit of the two's complement of `x` is set; its number is 0 to 63.
+/// Whether a bit of the two's complement of `x` is set, by its number from 0 on.
 fn bit_of(x: i64, place: i64) -> Outcome
     ensures { result ≡ bit x place }
 {
-    if 0 <= place && place < 64 {
+    if 0 <= place && place < BITS {
         truth_value((x.cast_unsigned() >> place as u32) % 2 == 1)
     } else {
         Outcome::Fault(PointFault::BadBit)

@@ -1,6 +1,6 @@
 -- A text has at most one list of tokens or one first refusal, and not both.
-use Rattle.std.proofs.Common.{◌≡◌, ◌==◌, ℕ, zero, suc, ◌+◌, ◌<◌, ◌≤◌, ◌^◌, Bool, true, false, cond, IsTrue, List, [], ◌∷◌, ◌++◌, length, map, take, Option, Some, None, Result, Ok, Err, refl, sym, ap, ◌∙◌, arith, subst}
-use Rattle.std.specs.Prelude.{nat_lt, nat_le}
+use Rattle.std.proofs.Common.{◌≡◌, ◌==◌, ℕ, zero, suc, ◌+◌, ◌<◌, ◌≤◌, Bool, true, false, cond, IsTrue, List, [], ◌∷◌, ◌++◌, length, map, take, Option, Some, None, Result, Ok, Err, refl, sym, ap, ◌∙◌, arith, subst}
+use Rattle.std.specs.Prelude.{nat_le}
 use Rattle.std.specs.Char.{to_ascii_lowercase, is_ascii_digit}
 use Rattle.std.specs.Str.{bytes_eq}
 use Rattle.std.proofs.lemmas.Bool.Decides.{nat_tests}
@@ -12,6 +12,7 @@ use Rattle.wcps_text.specs.declared.error.LexError.{LexError}
 use Rattle.wcps_text.specs.declared.error.LexError.TheVariants as errors
 use Rattle.wcps_text.specs.Token.{Tok, number, name, dollar, quoted, word, sign}
 use Rattle.arr_core.specs.Limits.{max_name}
+use Rattle.wcps_text.specs.Number.{max_number}
 use Rattle.arr_core.specs.Keywords.{all_keywords}
 use Rattle.arr_core.proofs.Keywords.{keyword_in, found-written, none-found}
 use Rattle.wcps_text.specs.Lexing.{is_space, begins_name, decimal, single, double, is_word, is_digits, Reads, numeral, large_numeral, plain, reserved, long_plain, marked, long_marked, text_between, one_byte, two_bytes, IsLongest, Piece, Lexed, at_end, past_space, past_token, Refused, behind_space, behind_token, no_token, no_form}
@@ -47,12 +48,6 @@ single-dense b s h = grind (arith, nat_tests)
 double-dense : (b : ℕ) (s : Symbol) → double b ≡ Some s → is_space b ≡ false
 double-dense b s h = grind (arith, nat_tests)
 
-below : {A : Type 0} (n m : ℕ) (a b : A) → n < m → cond (nat_lt n m) a b ≡ a
-below n m a b h = grind (arith, nat_tests)
-
-not-below : {A : Type 0} (n m : ℕ) (a b : A) → m ≤ n → cond (nat_lt n m) a b ≡ b
-not-below n m a b h = grind (arith, nat_tests)
-
 at-most : {A : Type 0} (n m : ℕ) (a b : A) → n ≤ m → cond (nat_le n m) a b ≡ a
 at-most n m a b h = grind (arith, nat_tests)
 
@@ -74,7 +69,7 @@ symbol_at (b ∷ c ∷ cs) = symbol_of (double b)
 
 -- what bytes of a kind are
 abbrev meant : ℕ → List ℕ → Result Tok LexError
-meant zero w = cond (nat_lt (decimal w) (2 ^ 63)) (Ok (number (decimal w))) (Err errors.NumberTooLarge)
+meant zero w = cond (nat_le (decimal w) max_number) (Ok (number (decimal w))) (Err errors.NumberTooLarge)
 meant (suc zero) w = cond (nat_le (length w) max_name) (named w (keyword_in all_keywords (map to_ascii_lowercase w))) (Err errors.BadToken)
 meant (suc (suc zero)) w = cond (nat_le (length w) max_name) (Ok (dollar w)) (Err errors.BadToken)
 meant (suc (suc (suc zero))) w = Ok (quoted w)
@@ -89,9 +84,9 @@ meant-as w k r e h = sym h ∙ ap (λ n. meant n w) (sym e)
 
 reads-meant : (w : List ℕ) (r : Result Tok LexError) → Reads w r → r ≡ meant (kind_of w) w
 reads-meant w r (numeral (is_digits {d} {ds} begin more) small) =
-    meant-as (d ∷ ds) 0 _ (digit-kind d begin) (below (decimal (d ∷ ds)) (2 ^ 63) _ _ small)
+    meant-as (d ∷ ds) 0 _ (digit-kind d begin) (at-most (decimal (d ∷ ds)) max_number _ _ small)
 reads-meant w r (large_numeral (is_digits {d} {ds} begin more) large) =
-    meant-as (d ∷ ds) 0 _ (digit-kind d begin) (not-below (decimal (d ∷ ds)) (2 ^ 63) _ _ large)
+    meant-as (d ∷ ds) 0 _ (digit-kind d begin) (above (decimal (d ∷ ds)) max_number _ _ large)
 reads-meant w r (plain (is_word {c} {cs} begin more) short free) =
     meant-as (c ∷ cs) 1 _ (letter-kind c begin) (at-most (length (c ∷ cs)) max_name _ _ short ∙ ap (named (c ∷ cs)) (none-found (c ∷ cs) free))
 reads-meant w r (reserved {k} (is_word {c} {cs} begin more) short same) =

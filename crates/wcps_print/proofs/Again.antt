@@ -1,5 +1,5 @@
 -- What some tokens spell, the printed tokens spell too.
-use Rattle.std.proofs.Common.{◌≡◌, ℕ, zero, suc, ◌-◌, ◌^◌, ◌<◌, ℤ, pos, ◌-ℤ◌, true, false, List, [], ◌∷◌, codes, refl, sym, arith, subst}
+use Rattle.std.proofs.Common.{◌≡◌, ℕ, zero, suc, ◌-◌, ◌<◌, ◌≤◌, ℤ, pos, ◌-ℤ◌, true, false, List, [], ◌∷◌, codes, refl, sym, arith, subst}
 use Rattle.wcps_text.specs.declared.token.Symbol.TheVariants as signs
 use Rattle.arr_core.specs.declared.keyword.Keyword.{Keyword}
 use Rattle.arr_core.specs.declared.keyword.Keyword.TheVariants as words
@@ -16,6 +16,7 @@ use Rattle.wcps_text.specs.Tree as tree
 use Rattle.wcps_text.specs.Tree.{Tree, Parts, no_parts, part, Subs, no_subs, sub, PlaceTree, trim, at, IntervalTree, bounds, domain, Iters, no_iters, iter, Condition, always, only, BindingTree, ItemTree, encode, plain, QueryTree}
 use Rattle.arr_core.specs.Keywords.{IsWritten, is_keyword}
 use Rattle.arr_core.proofs.Keywords.{unwritten}
+use Rattle.wcps_text.specs.Number.{max_number}
 use Rattle.wcps_text.specs.Lexing.{is_word, plain as plain_form}
 use Rattle.wcps_text.specs.Grammar.{Prefixes, negate, plus, not, binary_token, truth_word, Reduces, to_count, to_any, to_every, to_sum, to_average, to_least, to_greatest, Condenses, by_sum, by_product, by_greatest, by_least, by_every, by_any, rank_of, max_rank, Openness, closed, open_ended, SpellsInt, unsigned, positive, negative, SpellsItem, int_item, truth_item, SpellsItems, last_item, more_items, SpellsVariable, plain_name, dollar_name, Spells, post, coverage, condense, unary, tighter, binary, SpellsInParens, parens, SpellsPost, literal, truth, variable, grouped, abs, bit, reduce, parts, value_list, field, brackets, named, SpellsParts, last_part, more_parts, of_axis, SpellsSubs, last_sub, more_subs, SpellsPlace, trimmed, position, SpellsInterval, between, domain_of, iterator, SpellsIters, last_iter, more_iters, SpellsCondition, unconditional, conditional, SpellsNames, last_name, more_names, stands_for, SpellsBindings, last_binding, more_bindings, csv_word, SpellsReturn, encoded, unencoded, SpellsEnd, for_all, for_some, IsSpelled, query}
 use Rattle.wcps_text.proofs.Ranks.{rank_most, rank_suc, raised}
@@ -124,7 +125,7 @@ pub record AgainInt (z : ℤ) : Type 0 where
   pub spelled : (rest : List Tok) → SpellsInt (int_tokens z rest) z rest
   pub written : (rest : List Tok) → Each Written rest → Each Written (int_tokens z rest)
 
-int_negative : (n : ℕ) → n < 2 ^ 63 → AgainInt (pos 0 -ℤ pos n)
+int_negative : (n : ℕ) → n ≤ max_number → AgainInt (pos 0 -ℤ pos n)
 int_negative zero small = record { spelled = λ rest. unsigned; written = λ rest w. (small, w) }
 int_negative (suc n) small =
     subst AgainInt (sym (below_zero n)) (record {

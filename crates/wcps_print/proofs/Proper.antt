@@ -1,14 +1,15 @@
 -- Tokens that a text can have, and the tokens of names.
-use Rattle.std.proofs.Common.{◌≡◌, ℕ, ◌^◌, ◌<◌, List, [], ◌∷◌, get_or, Ok, refl, arith, ⊎_elim}
+use Rattle.std.proofs.Common.{◌≡◌, ℕ, ◌≤◌, List, [], ◌∷◌, get_or, Ok, refl, arith, ⊎_elim}
 use Rattle.std.proofs.lemmas.Bool.Decides.{eqb_tells}
 use Rattle.wcps_text.specs.Token.{Tok, number, name, dollar, quoted, word, sign}
 use Rattle.wcps_text.specs.Lexing.{is_word, Reads, numeral, plain, reserved, marked, text_between, one_byte, two_bytes, Piece, Lexed, at_end, past_space, past_token, tokens_of}
+use Rattle.wcps_text.specs.Number.{max_number}
 use Rattle.wcps_text.proofs.Fronts.{letter_low}
 use Rattle.wcps_print.specs.Printing.{name_token}
 
 -- what some bytes of a text can be
 abbrev pub Proper : Tok → Type 0
-Proper (number n) = n < 2 ^ 63
+Proper (number n) = n ≤ max_number
 Proper (name x) = Reads x (Ok (name x))
 Proper (dollar x) = Reads x (Ok (dollar x))
 Proper (quoted w) = Unit {0}

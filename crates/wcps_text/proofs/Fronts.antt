@@ -9,6 +9,7 @@ use Rattle.wcps_text.specs.declared.error.LexError.{LexError}
 use Rattle.wcps_text.specs.declared.error.LexError.TheVariants as errors
 use Rattle.wcps_text.specs.Token.{Tok, number, quoted, sign}
 use Rattle.wcps_text.specs.Lexing.{is_space, begins_name, continues_name, is_quotable, Every, decimal, single, double, IsWord, is_word, IsDigits, is_digits, Reads, numeral, large_numeral, plain, reserved, long_plain, marked, long_marked, text_between, one_byte, two_bytes, IsLongest, Refused, no_form}
+use Rattle.wcps_text.specs.Number.{max_number}
 use Rattle.wcps_text.specs.Runs.{Stops}
 use Rattle.wcps_text.specs.Fronts.{IsOther}
 
@@ -141,8 +142,8 @@ number_front (b ∷ bs) m k r some h run same reads =
     subst (λ (n : ℕ). (IsDigits (take n (b ∷ bs)) → Reads (take n (b ∷ bs)) r) → IsLongest (take n (b ∷ bs)) r (drop n (b ∷ bs)) (b ∷ bs)) (sym same)
     (λ form. longest b (suc m) bs r (omega (arith, run.within)) (form (is_digits h run.front)) (digit_most b m bs h run.stops)) reads
 
-pub numeral_at : (ds : List ℕ) (v : ℕ) → v ≡ decimal ds → v < 2 ^ 63 → IsDigits ds → Reads ds (Ok (number v))
-numeral_at ds v same small is = subst (λ (n : ℕ). Reads ds (Ok (number n))) (sym same) (numeral is (subst (λ (n : ℕ). n < 2 ^ 63) same small))
+pub numeral_at : (ds : List ℕ) (v : ℕ) → v ≡ decimal ds → v ≤ max_number → IsDigits ds → Reads ds (Ok (number v))
+numeral_at ds v same small is = subst (λ (n : ℕ). Reads ds (Ok (number n))) (sym same) (numeral is (subst (λ (n : ℕ). n ≤ max_number) same small))
 
 pub name_front : (bytes : List ℕ) (m k : ℕ) (r : Result Tok LexError) → 0 < length bytes → begins_name (get_or bytes 0 0) ≡ true → IsRun continues_name (drop 1 bytes) m → k ≡ suc m
     → (IsWord (take k bytes) → length (take k bytes) ≡ k → Reads (take k bytes) r) → IsLongest (take k bytes) r (drop k bytes) bytes

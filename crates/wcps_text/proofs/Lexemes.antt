@@ -11,11 +11,12 @@ use Rattle.arr_core.specs.Keywords.{keyword_text}
 use Rattle.wcps_text.specs.declared.token.Symbol.{Symbol}
 use Rattle.wcps_text.specs.declared.token.Symbol.TheVariants as signs
 use Rattle.wcps_text.specs.Token.{Tok, number, name, dollar, quoted, word, sign}
+use Rattle.wcps_text.specs.Number.{max_number}
 use Rattle.wcps_text.specs.Lexing.{Every, decimal, decimal_from, symbol_text, IsWord, is_word, IsDigits, is_digits, Reads, one_byte, two_bytes}
 
 -- bytes that read as the token, which is no string
 abbrev pub Written : Tok → Type 0
-Written (number n) = n < 2 ^ 63
+Written (number n) = n ≤ max_number
 Written (name x) = Reads x (Ok (name x))
 Written (dollar x) = Reads x (Ok (dollar x))
 Written (quoted w) = ⊥

@@ -1,5 +1,5 @@
 -- The tokens of a text.
-use Rattle.std.specs.Prelude.{◌≡◌, ℕ, ◌+◌, ◌-◌, ◌*◌, ◌^◌, ◌<◌, ◌≤◌, Bool, cond, ◌&&◌, ◌||◌, not, IsTrue, List, [], ◌∷◌, ◌++◌, length, map, Option, Some, None, Result, Ok, Err, codes, nat_le, ◌==◌}
+use Rattle.std.specs.Prelude.{◌≡◌, ℕ, ◌+◌, ◌-◌, ◌*◌, ◌<◌, ◌≤◌, Bool, cond, ◌&&◌, ◌||◌, not, IsTrue, List, [], ◌∷◌, ◌++◌, length, map, Option, Some, None, Result, Ok, Err, codes, nat_le, ◌==◌}
 use Rattle.std.specs.Char.{is_ascii_digit, is_ascii_alphanumeric}
 use Rattle.wcps_text.specs.declared.token.Symbol.{Symbol}
 use Rattle.wcps_text.specs.declared.token.Symbol.TheVariants as signs
@@ -10,6 +10,7 @@ use Rattle.wcps_text.specs.declared.error.LexError.{LexError}
 use Rattle.wcps_text.specs.declared.error.LexError.TheVariants as errors
 use Rattle.wcps_text.specs.Token.{Tok, number, name, dollar, quoted, word, sign, tok}
 use Rattle.arr_core.specs.Limits.{max_name}
+use Rattle.wcps_text.specs.Number.{max_number}
 pub use Rattle.arr_core.specs.Names.{begins_name}
 
 -- space, tab, CR and LF
@@ -77,8 +78,8 @@ pub data IsDigits : List ℕ → Type 0 where
 
 -- The bytes have the form of a token, and this is the token that they are, or why they are none.
 pub data Reads : List ℕ → Result Tok LexError → Type 0 where
-  numeral : {ds : List ℕ} → IsDigits ds → decimal ds < 2 ^ 63 → Reads ds (Ok (number (decimal ds)))
-  large_numeral : {ds : List ℕ} → IsDigits ds → 2 ^ 63 ≤ decimal ds → Reads ds (Err errors.NumberTooLarge)
+  numeral : {ds : List ℕ} → IsDigits ds → decimal ds ≤ max_number → Reads ds (Ok (number (decimal ds)))
+  large_numeral : {ds : List ℕ} → IsDigits ds → max_number < decimal ds → Reads ds (Err errors.NumberTooLarge)
   plain : {w : List ℕ} → IsWord w → length w ≤ max_name → ((k : Keyword) → IsWritten k w → ⊥) → Reads w (Ok (name w))
   reserved : {w : List ℕ} {k : Keyword} → IsWord w → length w ≤ max_name → IsWritten k w → Reads w (Ok (word k))
   long_plain : {w : List ℕ} → IsWord w → max_name < length w → Reads w (Err errors.BadToken)

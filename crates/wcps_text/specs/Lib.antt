@@ -1,3 +1,4 @@
+pub mod Number
 pub mod Token
 pub mod Tree
 pub mod Grammar

@@ -1,8 +1,9 @@
 //! The value of digits.
 
-ghost use Rattle.std.specs.Prelude.{◌≡◌, ◌<◌, ◌≤◌, ◌^◌, MatchOption};
+ghost use Rattle.std.specs.Prelude.{◌≡◌, ◌<◌, MatchOption};
 ghost use Rattle.std.specs.Char.{is_ascii_digit};
 ghost use Rattle.wcps_text.specs.Lexing.{decimal, Every};
+ghost use Rattle.wcps_text.specs.Number.{max_number};
 
 use crate::token::Literal;
 
@@ -12,7 +13,7 @@ const MAX_NUMBER: u64 = 9223372036854775807;
 /// The number that the digits write, if it is not too large.
 pub fn decimal(digits: &[u8]) -> Option<Literal>
     requires { Every is_ascii_digit digits.now }
-    ensures { MatchOption result (2 ^ 63 ≤ decimal digits.now) (λ n. n.value ≡ decimal digits.now) }
+    ensures { MatchOption result (max_number < decimal digits.now) (λ n. n.value ≡ decimal digits.now) }
 {
     let mut value: u64 = 0;
     for byte in digits {

@@ -1,6 +1,7 @@
 //! Tokens, which borrow the text that they were read from.
 
-ghost use Rattle.std.specs.Prelude.{◌<◌, ◌^◌};
+ghost use Rattle.std.specs.Prelude.{◌≤◌};
+ghost use Rattle.wcps_text.specs.Number.{max_number};
 
 use arr_core::Keyword;
 
@@ -33,7 +34,7 @@ pub enum Symbol {
 #[derive(Clone, Copy, Debug, PartialEq, Eq)]
 pub struct Literal {
     pub value: u64,
-    ghost small: { value < 2 ^ 63 },
+    ghost small: { value ≤ max_number },
 }
 
 /// What a token is.

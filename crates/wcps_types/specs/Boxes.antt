@@ -4,7 +4,7 @@ use Rattle.std.specs.List.{list_any, list_all}
 use Rattle.std.specs.Str.{bytes_eq}
 use Rattle.arr_core.specs.declared.domain.Axis.{Axis}
 use Rattle.arr_core.specs.Domains.{count, names_of}
-use Rattle.arr_core.specs.Limits.{max_points}
+use Rattle.arr_core.specs.Limits.{max_axes, max_points}
 use Rattle.arr_core.specs.Names.{is_name}
 use Rattle.wcps_text.specs.declared.operator.Aggregate.{Aggregate}
 use Rattle.wcps_text.specs.declared.operator.Aggregate.TheVariants as aggregates
@@ -56,7 +56,7 @@ are_ordered (a ∷ axes) = int_le a.lo a.hi && are_ordered axes
 
 -- axes make a domain, as a test: at most 6, no name twice, no lower bound above its upper one, at most 2^24 points
 abbrev pub is_domain : List Axis → Bool
-is_domain axes = (nat_le (length axes) 6 && are_distinct (names_of axes)) && (are_ordered axes && nat_le (count axes) max_points)
+is_domain axes = (nat_le (length axes) max_axes && are_distinct (names_of axes)) && (are_ordered axes && nat_le (count axes) max_points)
 
 -- the box of the iterators
 abbrev pub box_of : List Axis → Answer (List Axis)
