@@ -58,6 +58,7 @@ class Tiles(unittest.TestCase):
             session.insert("rain", {"t": (1, 3), "y": (0, 9), "x": (0, 19)}, {"mm": "u8"})
             session.write("rain", "mm", numpy.arange(600) % 256)
             session.insert("line", {"x": (0, 9)}, {"v": "u8"})
+            session.insert("lost", {"y": (0, 9), "x": (0, 9)}, {"v": "u8"})
             for name in ("large_1_2", "own_1_2"):
                 session.insert(name, {"y": (4096, 4105), "x": (8192, 8211)}, {"v": "u8"})
                 session.write(name, "v", numpy.arange(200))
@@ -66,6 +67,8 @@ class Tiles(unittest.TestCase):
         for name, left in [("large", 500000.0), ("own", 0.0), ("own_1_2", 300000.0)]:
             with open(f"{cls.folder}/{name}.json", "w", encoding="utf-8") as file:
                 json.dump({"transform": [left, 20.0, 0.0, 5400000.0, 0.0, -20.0], "wkt": WKT}, file)
+        with open(f"{cls.folder}/rain.json", "w", encoding="utf-8") as file:
+            json.dump({"transform": None, "wkt": ""}, file)
         cls.front = free_port()
         words = ["--listen", str(cls.front), "--port", str(cls.port), "--geo", cls.folder]
         gateway = subprocess.Popen([sys.executable, f"{HERE}/rasterd-tiles", *words])
@@ -105,6 +108,15 @@ class Tiles(unittest.TestCase):
             self.assertEqual(raster.GetGeoTransform(), (left, 20.0, 0.0, 5400000 - 4096 * 20, 0.0, -20.0))
             self.assertIn("UTM zone 32N", raster.GetProjection())
             numpy.testing.assert_array_equal(raster.ReadAsArray(), numpy.arange(200).reshape(10, 20))
+
+    def test_a_file_that_says_no_place_is_named(self):
+        for kept in ("", "[]", '{"transform": [0, 1], "wkt": ""}', '{"transform": "abcdef", "wkt": ""}', '{"wkt": ""}'):
+            with open(f"{self.folder}/lost.json", "w", encoding="utf-8") as file:
+                file.write(kept)
+            with self.subTest(kept=kept), self.assertRaises(urllib.error.HTTPError) as raised:
+                urllib.request.urlopen(f"http://127.0.0.1:{self.front}/lost/v.vrt")
+            self.assertEqual(raised.exception.code, 500)
+            self.assertIn(f"{self.folder}/lost.json is no file of rasterd-load", raised.exception.read().decode())
 
     def test_gdal_translate(self):
         path = f"{self.folder}/made.tif"
