@@ -2,7 +2,7 @@
 """The gate, on a copy of this tree: the layout of the crates, `rt ci` without the must-fail edits, then, over the program
 that it built, what `trials` lists, and over its libraries the edits.
 
-In CI's clone those edits alone are tried that are not recorded as refused on the text that stands here, and where all
+In CI's clone those edits alone are tried that are not recorded as refused on the text that stands here by the toolchain that is, and where all
 are recorded, those of one crate, which the commit decides.
 """
 
@@ -15,7 +15,7 @@ import sys
 import tempfile
 
 sys.dont_write_bytecode = True
-from must_fail import closed, recorded, said_by, sum_of, sums, texts_below, tried
+from must_fail import closed, recorded, release, rests, said_by, sum_of, sums, texts_below, tried
 from surface import dependencies
 
 # The most seconds of a trial.
@@ -137,7 +137,8 @@ def run_trials(seed):
 
 
 def gate():
-    now, then, commit = sums(), recorded(), said_by("git", "rev-parse", "HEAD").strip()
+    kit, commit = release(), said_by("git", "rev-parse", "HEAD").strip()
+    now, then = sums(kit, rests()), recorded(kit)
     names = to_try(now, then, commit) if os.environ.get("CI") == "true" else list(now)
     with copied():
         import must_fail_groups_test

@@ -5,8 +5,9 @@
   scripts/must_fail.py try [NAME..]  tries those, or the named ones, and records each crate whose edits were all refused
 
 What an edit comes to follows from the toolchain, the crate's text and what a check reads of the crates below it, but not from
-comments. The record, scripts/must_fail.txt, has the sum of all these for each crate, as it was when its edits were last all
-refused. Any other change changes the sum, and the edits are tried again.
+comments. The record, scripts/must_fail.txt, has a line for each crate and each release of the toolchain that refused all of its
+edits: the crate, what `rt version` says, and the sum of all these. Any other change changes the sum, and the edits are tried
+again. What one release refused stays noted while another one is at work.
 """
 
 import hashlib
@@ -20,6 +21,7 @@ from interfaces import read_above
 from surface import dependencies
 
 RECORD = "scripts/must_fail.txt"
+LINE = re.compile(r"(\w+) (\S+ logic [0-9a-f]+) ([0-9a-f]{64})\n")
 # a text or a character, which is kept, or a comment
 COMMENTS = {
     ".rt": re.compile(r'("(?:\\.|[^"\\])*"|\'(?:\\[^\n]+?|[^\'\\\n])\')|//[^\n]*', re.S),
@@ -54,9 +56,14 @@ def texts_below(folder):
     return found
 
 
-def sums():
-    """What the edits of each crate rest on, as one sum."""
-    lines, kit = dependencies("."), said_by("rt", "version")
+def release():
+    """What the toolchain says of itself."""
+    return said_by("rt", "version").strip()
+
+
+def rests():
+    """What the edits of each crate rest on besides the toolchain."""
+    lines = dependencies(".")
     with open("HANDLES", encoding="utf-8") as file:
         handles = file.read()
 
@@ -71,27 +78,36 @@ def sums():
     above = {name: sum_of(name, lines[name], read_above(own[name])) for name in lines}
     with_edits = [name for name in lines if os.path.isdir(f"crates/{name}/must-fail")]
     return {
-        it: sum_of(
-            kit, handles, own[it], sorted(above[dep] for dep in below(it)), texts_below(f"crates/{it}/must-fail")
-        )
+        it: (handles, own[it], sorted(above[dep] for dep in below(it)), texts_below(f"crates/{it}/must-fail"))
         for it in with_edits
     }
 
 
-def recorded():
+def sums(kit, parts):
+    """The sum of each crate for a release, by what its edits rest on besides."""
+    return {it: sum_of(kit, *each) for it, each in parts.items()}
+
+
+def noted():
+    """The lines of the record: a crate, a release, a sum."""
     if not os.path.isfile(RECORD):
-        return {}
+        return []
     with open(RECORD, encoding="utf-8") as file:
-        return dict(line.split() for line in file if re.fullmatch(r"\w+ [0-9a-f]{64}\n", line))
+        return [it.groups() for it in map(LINE.fullmatch, file) if it]
 
 
-def record(now, refused, tried):
-    """Notes the crates whose edits were all refused, and of those that were tried no others."""
-    kept = {it: was for it, was in recorded().items() if it in now and it not in tried} | {
-        it: now[it] for it in refused
-    }
+def recorded(kit):
+    """The sum that the record has of each crate for a release."""
+    return {name: was for name, by, was in noted() if by == kit}
+
+
+def record(kit, parts, refused, tried):
+    """Notes the crates whose edits this release refused all, and of those that were tried no others. A line of another release
+    stays while its sum stands."""
+    stand = {(name, by) for name, by, was in noted() if name in parts and was == sum_of(by, *parts[name])}
+    stand = stand - {(name, kit) for name in tried} | {(name, kit) for name in refused}
     with open(RECORD, "w", encoding="utf-8") as file:
-        file.writelines(f"{it} {kept[it]}\n" for it in sorted(kept))
+        file.writelines(f"{name} {by} {sum_of(by, *parts[name])}\n" for name, by in sorted(stand))
 
 
 def tried(names, builds):
@@ -125,13 +141,14 @@ def closed(passed, faults):
 def main(verb="", *named):
     if verb not in ("", "try"):
         sys.exit(__doc__.strip())
-    now, then = sums(), recorded()
+    kit, parts = release(), rests()
+    now, then = sums(kit, parts), recorded(kit)
     if unknown := [it for it in named if it not in now]:
         sys.exit(f"no edits of {', '.join(unknown)}")
     left = [*named] or [it for it in now if then.get(it) != now[it]]
     if verb == "try":
         refused, passed, failed = tried(left, builds=True)
-        record(now, refused, left)
+        record(kit, parts, refused, left)
         return closed(passed, failed)
     print(*left, sep="\n")
     return 0

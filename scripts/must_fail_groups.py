@@ -88,11 +88,13 @@ def module_of(path):
 
 
 def functions_in(path, text, homes):
-    """The functions of a file in rt fmt's layout: a body opens and closes at the depth of its `fn`. A method is named after the module of its type."""
+    """The functions of a file in rt fmt's layout: a body opens and closes at the depth of its `fn`. A type's own method is named after the module of its type."""
     rows, owner, found = text.split("\n"), [], []
     for at, row in enumerate(rows):
         if impl := IMPL.match(row):
-            owner = [*homes.get(impl[3], module_of(path)), impl[3] + (impl[1] or "") + (impl[2] or "")]
+            # what is written for a trait stands where it is written, and a type of numbers has a great letter there
+            home = module_of(path) if impl[1] else homes.get(impl[3], module_of(path))
+            owner = [*home, impl[3][0].upper() + impl[3][1:] + (impl[1] or "") + (impl[2] or "")]
         head = FUNCTION.match(row)
         if not head:
             continue
@@ -252,7 +254,8 @@ def try_round(crate, functions, edits, kept, numbers):
 
 
 def try_edits(crate, tell):
-    """What came of the edits of a crate, told as each round ends. Its rounds run one after the other, each over what those before it have proved."""
+    """What came of the edits of a crate, told as each round ends. Its rounds run one after the other, each over what those before it have proved, the first
+    over what the crate's own checks have kept."""
     edits, strays = rt.edits_of(crate)
     told = [
         (
@@ -264,6 +267,9 @@ def try_edits(crate, tell):
     tell(told)
     functions, numbers = functions_of(crate), itertools.count(1)
     with tempfile.TemporaryDirectory(prefix="edits-kept-") as kept:
+        own = f"{crate.folder}/{rt.rtlib.KEPT[1]}"
+        if os.path.isdir(own):
+            shutil.copytree(own, kept, dirs_exist_ok=True)
         for edits_of_round in rounds_of(crate, functions, edits):
             of_round = try_round(crate, functions, edits_of_round, kept, numbers)
             tell(of_round)

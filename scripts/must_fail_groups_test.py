@@ -17,7 +17,7 @@ CODE = """\
 //! A light with levels.
 #![tactic(auto)]
 
-ghost use Rattle.std.specs.Prelude.{◌≡◌, ◌≤◌, ◌+◌, IfSome};
+ghost use Rattle.std.specs.Prelude.{◌≡◌, ◌≤◌, ◌+◌, ℕ, IfSome};
 
 const STEP: u8 = 1;
 
@@ -48,9 +48,27 @@ pub fn same(level: u8) -> u8
 {
     level
 }
+
+/// What has a level.
+pub trait Lit {
+    ghost lit: { Self → ℕ };
+
+    /// The level.
+    fn level(&self) -> u8
+        ensures { result ≡ lit self.now };
+}
+
+impl Lit for u8 {
+    ghost lit = { λ n. n };
+
+    fn level(&self) -> u8 {
+        *self
+    }
+}
 """
 REFUSED = ("return b;", "return a;")
 HARMLESS = ("if level < 100 {", "if 100 > level {")
+OF_NUMBERS = ("*self", "1")
 UNREAD = ("return b;", "return b b;")
 STALE = ("return c;", "return a;")
 OUTSIDE = ("const STEP: u8 = 1;", "const STEP: u8 = 2;")
@@ -74,7 +92,7 @@ def outcome(*edits):
 
 def draws():
     """What is wrong with the choice of crates in the tree that this runs in."""
-    now = must_fail.sums()
+    now = must_fail.sums(must_fail.release(), must_fail.rests())
     if len(chosen := gate.to_try(now, now, "")) != 1:
         yield f"where all edits are recorded, those of {', '.join(chosen)} are tried"
     for it in now.keys() - {name for commit in range(400) for name in gate.to_try(now, now, str(commit))}:
@@ -82,6 +100,23 @@ def draws():
     for stale in (list(now)[:1], list(now)[1:]):
         if (chosen := gate.to_try(now, now | dict.fromkeys(stale, ""), "")) != stale:
             yield f"{', '.join(chosen)} are tried, where the edits of {', '.join(stale)} are not recorded"
+
+
+def records():
+    """What is wrong with the record, where two releases refused edits and a text changed between."""
+    one, two, before, after = (
+        "kit-1 logic 0a",
+        "kit-2 logic 0a",
+        {"lamp": ("a",), "light": ("b",)},
+        {"lamp": ("a",), "light": ("c",)},
+    )
+    with tempfile.TemporaryDirectory(prefix="record-test-") as room:
+        with mock.patch.object(must_fail, "RECORD", f"{room}/record.txt"):
+            must_fail.record(one, before, ["lamp", "light"], ["lamp", "light"])
+            must_fail.record(two, after, ["light"], ["lamp", "light"])
+            for kit, wanted in [(one, ["lamp"]), (two, ["light"])]:
+                if must_fail.recorded(kit) != {it: must_fail.sum_of(kit, *after[it]) for it in wanted}:
+                    yield f"the record has {must_fail.recorded(kit)} of {kit}"
 
 
 def comments():
@@ -123,7 +158,7 @@ def reads():
 
 def faults():
     """What is wrong with the trier, with the choice and with the sums: nothing, if all is well."""
-    found = [*draws(), *comments(), *reads()]
+    found = [*draws(), *records(), *comments(), *reads()]
 
     def expect(what, told, *wanted):
         if len(told) != len(wanted) or any(a != b or words not in text for (a, text), (b, words) in zip(told, wanted)):
@@ -131,6 +166,7 @@ def faults():
 
     both = outcome(REFUSED, HARMLESS)
     expect("a harmless edit beside one that is refused", both, (True, "in a group of 2"), (False, "NOT REFUSED"))
+    expect("an edit of a method of numbers", outcome(OF_NUMBERS), (True, "in a group of 1"))
     expect("an edit that cannot be read", outcome(UNREAD), (False, "BAD EDIT"))
     expect("an edit whose text is gone", outcome(STALE), (False, "BAD EDIT"))
     expect("an edit outside of functions", outcome(OUTSIDE), (True, "refused, as it must be: "))
