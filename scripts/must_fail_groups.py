@@ -33,6 +33,8 @@ rt = toolchain()
 ONE_JOB = ["--jobs", "1"]
 # what rt tells of an edit that it counts as refused: one of these words, or, where it has none, that it is true
 WELL = [getattr(rt, it, True) for it in ("REFUSED", "AT_LIMIT")]
+# what a check of a program's wrong bodies takes at most, in bytes
+MOST_MEMORY = 14 * 10**9
 HARMLESS = "let _control = {}_usize + 1;"
 # What a proof file says where it names what an edit took away: that shows little of the meaning.
 MISSING_NAME = re.compile(r"has no field|is not in scope|has no `|was not admitted")
@@ -281,6 +283,9 @@ def side_by_side(crates, tell=lambda told: None):
     """What came of the edits of each crate, by its name. As many crates at a time as there are processors and memory."""
     rt.rtlib.guarded()
     call = lambda crate, given, jobs: try_edits(crate, tell)
-    tasks = {(it.name, "edits"): ([], it.count(rb"\n"), rt.need(it), functools.partial(call, it)) for it in crates}
+    # a program's begin before the others, since what is searched for a wrong body there takes long, and much memory
+    lines = lambda it: it.count(rb"\n") + (10**6 if it.is_program else 0)
+    need = lambda it: max(rt.need(it), MOST_MEMORY) if it.is_program else rt.need(it)
+    tasks = {(it.name, "edits"): ([], lines(it), need(it), functools.partial(call, it)) for it in crates}
     given = rt.in_lanes(tasks) if tasks else {}
     return {name: told for (name, _), told in given.items()}
