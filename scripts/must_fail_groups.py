@@ -61,9 +61,10 @@ class Function:
         return path == self.path and self.opening < rows[0] and rows[-1] < self.last
 
     def proofs(self):
-        """The folder of its proof, which a cycle of calls has as one."""
+        """The folders that its proof may stand in: a cycle of calls has one, and so has a function that calls itself."""
         parents = self.place.split("::")[:-1]
-        return "/".join(["proofs", *parents, self.cycle or self.name, ""])
+        names = [self.cycle] if self.cycle else [self.name, f"+{self.name}"]
+        return tuple("/".join(["proofs", *parents, it, ""]) for it in names)
 
     def is_told(self, head, what, said):
         """Whether a check tells something of a place in this function."""
@@ -178,7 +179,9 @@ class Group:
         while reached != before:
             before, reached = reached, reached | {it.name for it in self.functions if it.calls & reached}
         free = [
-            it for it in self.functions if it.name not in reached and not os.path.isdir(f"{self.room}/{it.proofs()}")
+            it
+            for it in self.functions
+            if it.name not in reached and not any(os.path.isdir(f"{self.room}/{at}") for at in it.proofs())
         ]
         return min(free, key=lambda it: (not it.promises, it.last - it.opening, it.place), default=None)
 

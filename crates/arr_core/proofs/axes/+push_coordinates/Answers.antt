@@ -1,6 +1,7 @@
 -- The place divided by the points of the other axes gives the first coordinate, and its remainder the others.
-use Rattle.std.proofs.Common.{rules, ap, ◌∙◌, ◌+ℤ◌, ◌/◌, pos, w32, SFits}
+use Rattle.std.proofs.Common.{rules, ap, ◌∙◌, ◌+ℤ◌, ◌/◌, pos, w32, SFits, arith}
 use Rattle.std.proofs.lemmas.Int.{to_z-of_z}
+use Rattle.std.proofs.lemmas.Grind.{common_steps}
 use Rattle.arr_core.proofs.FirstAxis.{cut, step, onto}
 use Rattle.arr_core.proofs.axes.+push_coordinates.Goals as goal
 
@@ -32,3 +33,9 @@ returns-in_ok-push_coordinates-in-len1-up t c =
     let x : SFits w32 c.coordinate-x.result = search rules in
     let y = to_z-of_z w32 c.coordinate-x.result x ∙ c.coordinate-x.ensures ∙ ap (λ z. z +ℤ pos (c.args.place / (c.args.count / c.size.result))) (to_z-of_z w32 c.axis-item.result.lo lo) in
     onto _ _ _ _ _ _ _ c.in_ok-push-in-len1-up.ensures.items y s.made c.in_ok-push_coordinates-in-len1-up.ensures
+
+pub nonzero_div-place : goal.nonzero_div-place
+nonzero_div-place t c = grind (arith, common_steps)
+
+pub returns-in-empty : goal.returns-in-empty
+returns-in-empty t c = grind (arith, common_steps)

@@ -4,6 +4,7 @@ use Rattle.std.proofs.lemmas.Int.{to_z-of_z}
 use Rattle.std.proofs.lemmas.Slice.{take-put_mid}
 use Rattle.std.proofs.lemmas.List.{replicate-append-replicate, take-replicate, take-take, length-take-le}
 use Rattle.std.proofs.Math.Seq.{take-append-add}
+use Rattle.std.proofs.lemmas.Grind.{common_steps}
 use Rattle.arr_core.proofs.runs.write_run.Goals as goal
 
 pub loop-at-preserved : goal.loop-at-preserved
@@ -33,3 +34,6 @@ returns-clause-front c =
     sym (take-take (c.args.from + count) c.loop-at.at c.loop-at.cells (omega arith)) ∙ ap (take (c.args.from + count)) written
     ∙ ap (λ (n : ℕ). take (n + count) (front ++ done)) (sym long) ∙ take-append-add front done count
     ∙ ap (λ (xs : List ℤ). front ++ xs) (take-replicate count (c.loop-at.at - c.args.from) c.args.value (omega arith))
+
+pub returns-then-count-ge-LONG-clause-front : goal.returns-then-count-ge-LONG-clause-front
+returns-then-count-ge-LONG-clause-front c = grind (arith, common_steps)

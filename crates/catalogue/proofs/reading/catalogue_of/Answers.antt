@@ -1,5 +1,6 @@
 -- Signatures are a catalogue unless one has a name that is held.
 use Rattle.std.proofs.Common.{sym, ◌∙◌, arith, true≢false}
+use Rattle.std.proofs.lemmas.Grind.{common_steps}
 use Rattle.catalogue.proofs.Whole.{next-valid, next-room, next-fresh}
 use Rattle.catalogue.proofs.reading.catalogue_of.Goals as goal
 
@@ -17,3 +18,9 @@ push-requires c =
       fields = v.fields.sound;
       room = omega (arith, next-room _ _ _ front, c.requires.few);
     }
+
+pub loop-signature-preserved : goal.loop-signature-preserved
+loop-signature-preserved c = grind (arith, common_steps)
+
+pub returns-clause-same : goal.returns-clause-same
+returns-clause-same c = grind (arith, common_steps)

@@ -1,5 +1,6 @@
 -- One more axis has its variable, at the next level.
 use Rattle.std.proofs.Common.{◌≡◌, ◌+◌, ◌∙◌, ap, sym, arith, [], ◌∷◌, ◌++◌, append_assoc, length, take, suc}
+use Rattle.std.proofs.lemmas.Grind.{common_steps}
 use Rattle.plan_ir.specs.declared.body.Index.TheVariants.{Var}
 use Rattle.plan_ir.specs.Placed.{spans}
 use Rattle.plan_rewrite.specs.Inlining.{levels}
@@ -21,3 +22,6 @@ loop-axis-preserved c =
           ∙ ap (λ m. env ++ levels n (spans (take m axes))) (sym next);
       level = omega (arith, inv.level);
     }
+
+pub returns : goal.returns
+returns c = grind (arith, common_steps)

@@ -1,6 +1,7 @@
 -- Each node of a body gives its column of outcomes, a fold by points or by tiles, and fetches within its bound.
 use Rattle.std.proofs.Common.{◌≡◌, ◌∙◌, ◌+◌, ◌-◌, ◌*◌, ◌^◌, ◌<◌, ◌≤◌, ℕ, ℤ, List, [], ◌∷◌, ◌++◌, refl, ap, sym, subst, length, map, get_or, take, drop, arith, pos, rules}
 use Rattle.std.specs.Prelude.{replicate, OnOk, IfOk, Option, option_copied}
+use Rattle.std.proofs.lemmas.Grind.{common_steps}
 use Rattle.wcps_mean.specs.declared.cell.Outcome.TheVariants.{Value}
 use Rattle.plan_ir.specs.Bodies.{read}
 use Rattle.plan_ir.proofs.Folds.{folded}
@@ -765,3 +766,18 @@ tell_zones-returns-clause-fetched g t c =
     let x = times_few (chosen (g.S.Tiles.state c.args.source.now) c.args.on.now.ground.now) 0 c.args.frame.now (key_of c.args.fold.now c.args.on.now.zones) in
     let b = c.in_ok-tell_zone_tiles.ensures.fetched in
     omega (arith, a, same, x, b)
+
+pub at_coordinates-push_column-requires : goal.at_coordinates-push_column-requires
+at_coordinates-push_column-requires g t c = grind (arith, common_steps)
+
+pub bind-settle-requires : goal.bind-settle-requires
+bind-settle-requires g t c = grind (arith, common_steps)
+
+pub evaluate-returns-in-Lit-clause-places : goal.evaluate-returns-in-Lit-clause-places
+evaluate-returns-in-Lit-clause-places g t c = grind (arith, common_steps)
+
+pub evaluate-returns-in-Reg-clause-places : goal.evaluate-returns-in-Reg-clause-places
+evaluate-returns-in-Reg-clause-places g t c = grind (arith, common_steps)
+
+pub tell_points-returns-clause-told : goal.tell_points-returns-clause-told
+tell_points-returns-clause-told g t c = grind (arith, common_steps)

@@ -1,5 +1,6 @@
 -- The tile of the axes behind, and the part of the first one.
 use Rattle.std.proofs.Common.{◌-◌, ◌≤◌, arith, List, length, take, drop, subst, sym}
+use Rattle.std.proofs.lemmas.Grind.{common_steps}
 use Rattle.arr_core.specs.declared.domain.Axis.{Axis}
 use Rattle.arr_core.specs.Domains.{count}
 use Rattle.arr_core.specs.Limits.{max_points}
@@ -26,3 +27,9 @@ returns-in-Some-part_under t c =
     turns_more c.args.edge c.args.variables.now c.args.axes.now _ c.axis-item.result c.args.indexes.now _ _ c.in-Some-part_under.part c.in-Some.behind c.in_front.result
     e (cut_first c.args.indexes.now _ c.in-len1-up-indexes.len_at_least) c.in-Some.ensures c.in-Some-part_under.ensures.turns
     c.in_front.ensures.number c.in_front.ensures.tiles c.in_front.ensures.points
+
+pub tile_covered-requires : goal.tile_covered-requires
+tile_covered-requires t c = grind (arith, common_steps)
+
+pub returns-in-empty-indexes : goal.returns-in-empty-indexes
+returns-in-empty-indexes t c = grind (arith, common_steps)

@@ -4,6 +4,7 @@ use Rattle.std.specs.Prelude.{sum_by, OnOk}
 use Rattle.std.specs.List.{All}
 use Rattle.std.proofs.lemmas.Int.{to_z-of_z}
 use Rattle.std.proofs.lemmas.List.{length-map}
+use Rattle.std.proofs.lemmas.Grind.{common_steps}
 use Rattle.arr_core.proofs.FirstAxis.{cut}
 use Rattle.wcps_mean.specs.declared.cell.Outcome.TheVariants.{Value}
 use Rattle.plan_ir.specs.declared.plan.Bind.{Bind}
@@ -142,3 +143,18 @@ returns-in_ok-settle_columns-in-len1-up-clause-fetched g t c = λ n h.
     ∙ fetched_behind cs n c.args.frame.now c.in_ok-numbers-in-len1-up.numbers.items (bodies_behind (map bind_view rest) fields) h in
     let all = fetched_more f c.args.binds.now b rest fields (cut c.args.binds.now b c.in-len1-up.len_at_least c.bind-item.is) in
     omega (arith, few, more, e, all)
+
+pub field_columns-requires-clause-place : goal.field_columns-requires-clause-place
+field_columns-requires-clause-place g t c = grind (arith, common_steps)
+
+pub evaluate-requires-clause-place : goal.evaluate-requires-clause-place
+evaluate-requires-clause-place g t c = grind (arith, common_steps)
+
+pub returns-then-bind-clause-fields : goal.returns-then-bind-clause-fields
+returns-then-bind-clause-fields g t c = grind (arith, common_steps)
+
+pub push_column-requires : goal.push_column-requires
+push_column-requires g t c = grind (arith, common_steps)
+
+pub returns-in-empty-clause-value : goal.returns-in-empty-clause-value
+returns-in-empty-clause-value g t c = grind (arith, common_steps)

@@ -1,6 +1,7 @@
 -- One more field has zeros, settled by the positions.
-use Rattle.std.proofs.Common.{◌∙◌, ◌∷◌, [], ◌++◌, ap, sym, length, pos}
+use Rattle.std.proofs.Common.{◌∙◌, ◌∷◌, [], ◌++◌, ap, sym, length, pos, arith}
 use Rattle.std.specs.Prelude.{replicate}
+use Rattle.std.proofs.lemmas.Grind.{common_steps}
 use Rattle.wcps_mean.specs.declared.cell.Outcome.TheVariants.{Value}
 use Rattle.tile_columns.specs.Fields.{settled_by}
 use Rattle.tile_columns.proofs.Behind.{one_more_same}
@@ -14,3 +15,6 @@ loop-field-preserved c =
     ∙ ap (λ x. c.loop-field.columns.items ++ x ∷ []) (c.in_ok-settle.ensures ∙ ap f (c.fill.ensures ∙ ap (λ n. replicate n (Value (pos 0))) c.len.ensures.places))
     ∙ ap (λ l. l ++ blank ∷ []) c.loop-field.invariant
     ∙ sym (one_more_same c.loop-field._field blank)
+
+pub settle-requires : goal.settle-requires
+settle-requires c = grind (arith, common_steps)

@@ -3,6 +3,7 @@ use Rattle.std.proofs.Common.{◌≡◌, ◌∙◌, ◌<◌, ◌≤◌, ◌+◌,
 use Rattle.std.specs.Prelude.{sum_by}
 use Rattle.std.specs.List.{All}
 use Rattle.std.proofs.lemmas.List.Elements.{All-push}
+use Rattle.std.proofs.lemmas.Grind.{common_steps}
 use Rattle.wcps_mean.specs.declared.cell.Outcome.{Outcome}
 use Rattle.plan_ir.specs.Bodies.{body_view}
 use Rattle.plan_ir.specs.Run.{run}
@@ -68,3 +69,6 @@ returns-clause-fetched g c = λ n h.
     subst (λ l. (g.S.Tiles.state c.loop-field.source).fetched ≤ (g.S.Tiles.state c.args.source.now).fetched + sum_by f (bodies_behind [] (map field_view l)))
     (whole_list c.loop-field.field-index c.args.fields.now (omega (arith, c.loop-field-test.false)))
     (c.loop-field.invariant.fetched n h)
+
+pub returns-clause-value : goal.returns-clause-value
+returns-clause-value g c = grind (arith, common_steps)

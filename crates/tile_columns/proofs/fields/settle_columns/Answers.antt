@@ -1,5 +1,6 @@
 -- One more column is settled by the positions.
 use Rattle.std.proofs.Common.{◌≡◌, ◌∙◌, ◌<◌, ap, arith, length, get_or, set}
+use Rattle.std.proofs.lemmas.Grind.{common_steps}
 use Rattle.tile_columns.specs.Fields.{settled_by}
 use Rattle.tile_columns.proofs.Behind.{partly_at, partly_next, length-partly}
 use Rattle.tile_columns.proofs.fields.settle_columns.Goals as goal
@@ -17,3 +18,6 @@ loop-k-preserved c =
     ap (λ x. set c.loop-k.columns.items k x) (c.in_ok-settle.ensures ∙ ap f is)
     ∙ ap (λ l. set l k (f (get_or xs k old))) inv
     ∙ partly_next f k xs old lt
+
+pub returns : goal.returns
+returns c = grind (arith, common_steps)

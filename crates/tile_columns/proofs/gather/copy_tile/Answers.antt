@@ -1,6 +1,7 @@
 -- One more place has its cell, if its tile is this one.
 use Rattle.std.proofs.Common.{◌≡◌, ◌≢◌, ◌<◌, ◌∙◌, arith, below_more, get_or, pos, length, set, get_or-set_same, get_or-set_other, rules, SFits, w64, to_z, of_z}
 use Rattle.std.proofs.lemmas.Int.{to_z-of_z}
+use Rattle.std.proofs.lemmas.Grind.{common_steps}
 use Rattle.tile_columns.proofs.gather.copy_tile.Goals as goal
 
 pub loop-place-preserved : goal.loop-place-preserved
@@ -18,3 +19,6 @@ loop-place-preserved c =
           (λ q. get_or-set_same c.loop-place.all c.loop-place.place (to_z w64 (of_z w64 c.copied.result)) (pos 0) lt ∙ to_z-of_z w64 c.copied.result fits ∙ c.copied.ensures.kept q ∙ to_z-of_z w64 (get_or c.loop-place.all c.loop-place.place (pos 0)) before ∙ inv.rest c.loop-place.place (omega arith));
       rest = λ j l. let ne : j ≢ c.loop-place.place = omega arith in get_or-set_other c.loop-place.all c.loop-place.place j (to_z w64 (of_z w64 c.copied.result)) (pos 0) ne ∙ inv.rest j (omega arith);
     }
+
+pub returns : goal.returns
+returns c = grind (arith, common_steps)

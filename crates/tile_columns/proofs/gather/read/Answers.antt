@@ -2,6 +2,7 @@
 use Rattle.std.proofs.Common.{◌∙◌, ap, sym, arith, map, get_or, []}
 use Rattle.std.specs.Prelude.{slice_get}
 use Rattle.std.proofs.lemmas.List.{length-map}
+use Rattle.std.proofs.lemmas.Grind.{common_steps}
 use Rattle.arr_core.specs.Domains.{points, count}
 use Rattle.arr_core.specs.Tiles.{tile_boxes}
 use Rattle.arr_core.specs.Meeting.{tile_number}
@@ -48,3 +49,6 @@ pub returns-clause-value : goal.returns-clause-value
 returns-clause-value g c = λ i.
     c.write.ensures ∙ ap (map Value) (c.deref.ensures.value ∙ c.in_ok-gather.ensures.value i)
     ∙ map_map Value (λ e. (g.S.Tiles.state c.args.source.now).cells c.args.reading.now.coverage c.args.reading.now.field (numbers_at e c.args.reading.now.indexes.now)) c.args.frame.now
+
+pub returns-clause-places : goal.returns-clause-places
+returns-clause-places g c = grind (arith, common_steps)

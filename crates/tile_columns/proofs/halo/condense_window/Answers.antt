@@ -2,6 +2,7 @@
 use Rattle.std.proofs.Common.{◌∙◌, ◌*◌, [], ap, sym, subst, arith, map, length}
 use Rattle.std.specs.List.{All}
 use Rattle.std.proofs.Math.Nat.{mul-le-mul_right}
+use Rattle.std.proofs.lemmas.Grind.{common_steps}
 use Rattle.arr_core.specs.declared.domain.Axis.{Axis}
 use Rattle.wcps_mean.specs.Condensers.{combined}
 use Rattle.tile_columns.specs.Reaching.{between, extent, reached_by, EndsBy}
@@ -50,3 +51,45 @@ returns-clause-places g c =
     let a = ap length (c.write_outcomes.ensures ∙ c.deref-4.ensures.value ∙ c.in_ok-condense_windows.ensures) ∙ windows_many (combined w.op) c.deref.result.now c.size_of.result c.deref-2.result.now c.deref-3.result.now in
     let b = ap (λ n. n * length c.deref-3.result.now) (ap length c.deref-2.ensures.value ∙ c.in_ok-down.ensures.many) ∙ ap (λ n. extent w.rows.places * n) (ap length c.deref-3.ensures.value ∙ c.in_ok-across.ensures.many) in
     a ∙ b
+
+pub returns-in_err-cells-clause-value : goal.returns-in_err-cells-clause-value
+returns-in_err-cells-clause-value g c = grind (arith, common_steps)
+
+pub returns-in_err-cells-clause-places : goal.returns-in_err-cells-clause-places
+returns-in_err-cells-clause-places g c = grind (arith, common_steps)
+
+pub returns-in_err-cells-clause-reads : goal.returns-in_err-cells-clause-reads
+returns-in_err-cells-clause-reads g c = grind (arith, common_steps)
+
+pub returns-in_err-cells-clause-fetched : goal.returns-in_err-cells-clause-fetched
+returns-in_err-cells-clause-fetched g c = grind (arith, common_steps)
+
+pub returns-in_err-down-clause-value : goal.returns-in_err-down-clause-value
+returns-in_err-down-clause-value g c = grind (arith, common_steps)
+
+pub returns-in_err-down-clause-places : goal.returns-in_err-down-clause-places
+returns-in_err-down-clause-places g c = grind (arith, common_steps)
+
+pub returns-in_err-down-clause-reads : goal.returns-in_err-down-clause-reads
+returns-in_err-down-clause-reads g c = grind (arith, common_steps)
+
+pub returns-in_err-down-clause-fetched : goal.returns-in_err-down-clause-fetched
+returns-in_err-down-clause-fetched g c = grind (arith, common_steps)
+
+pub returns-in_err-across-clause-value : goal.returns-in_err-across-clause-value
+returns-in_err-across-clause-value g c = grind (arith, common_steps)
+
+pub returns-in_err-across-clause-places : goal.returns-in_err-across-clause-places
+returns-in_err-across-clause-places g c = grind (arith, common_steps)
+
+pub returns-in_err-across-clause-reads : goal.returns-in_err-across-clause-reads
+returns-in_err-across-clause-reads g c = grind (arith, common_steps)
+
+pub returns-in_err-across-clause-fetched : goal.returns-in_err-across-clause-fetched
+returns-in_err-across-clause-fetched g c = grind (arith, common_steps)
+
+pub returns-clause-reads : goal.returns-clause-reads
+returns-clause-reads g c = grind (arith, common_steps)
+
+pub returns-clause-fetched : goal.returns-clause-fetched
+returns-clause-fetched g c = grind (arith, common_steps)

@@ -1,6 +1,7 @@
 -- The first axis, then the others.
-use Rattle.std.proofs.Common.{◌∙◌, rules, SFits, w32, pos}
+use Rattle.std.proofs.Common.{◌∙◌, rules, SFits, w32, pos, arith}
 use Rattle.std.proofs.lemmas.Int.{to_z-of_z}
+use Rattle.std.proofs.lemmas.Grind.{common_steps}
 use Rattle.plan_ir.specs.declared.body.Index.TheVariants.{Const}
 use Rattle.arr_core.proofs.FirstAxis.{cut}
 use Rattle.tile_columns.proofs.Turns.{gap_of}
@@ -62,3 +63,12 @@ returns-in_ok-add_axes-in-len1-up-indexes-clause-counted t c =
       λ k lt. c.in_ok-add_axes-in-len1-up-indexes.ensures.counted.0 k lt ∙ counted_tile c.args.edge c.args.axes.now _ c.axis-item.result c.args.indexes.now _ _ c.args.frame.now c.deref.result.now _ c.distance.result c.args.scratch.now.numbers.items c.add_axis.new.tiles.items (head c.args.edge c.args.axes.now _ c.axis-item.result c.args.indexes.now _ _ c.args.frame.now e (cut_first c.args.indexes.now _ c.in-len1-up-indexes.len_at_least) c.requires.inside) (c.deref.ensures.value ∙ c.in_ok-list-in-len1-up-indexes.ensures) (to_z-of_z w32 c.axis-item.result.lo lo) m c.add_axis.ensures.tiles k lt,
       λ k lt. c.in_ok-add_axes-in-len1-up-indexes.ensures.counted.1 k lt ∙ counted_rank c.args.edge c.args.axes.now _ c.axis-item.result c.args.indexes.now _ _ c.args.frame.now c.deref.result.now _ c.distance.result c.args.scratch.now.ranks.items c.add_axis.new.ranks.items (head c.args.edge c.args.axes.now _ c.axis-item.result c.args.indexes.now _ _ c.args.frame.now e (cut_first c.args.indexes.now _ c.in-len1-up-indexes.len_at_least) c.requires.inside) (c.deref.ensures.value ∙ c.in_ok-list-in-len1-up-indexes.ensures) (to_z-of_z w32 c.axis-item.result.lo lo) m c.add_axis.ensures.ranks k lt,
     )
+
+pub add_axis-requires-clause-places : goal.add_axis-requires-clause-places
+add_axis-requires-clause-places t c = grind (arith, common_steps)
+
+pub returns-in-empty-clause-counted : goal.returns-in-empty-clause-counted
+returns-in-empty-clause-counted t c = grind (arith, common_steps)
+
+pub returns-in-empty-indexes-clause-counted : goal.returns-in-empty-indexes-clause-counted
+returns-in-empty-indexes-clause-counted t c = grind (arith, common_steps)

@@ -1,6 +1,7 @@
 -- One more place has been counted.
 use Rattle.std.proofs.Common.{◌≢◌, ◌∙◌, ap, arith, rules, get_or, pos, get_or-set_other, SFits, w64}
 use Rattle.std.proofs.lemmas.Int.{to_z-of_z}
+use Rattle.std.proofs.lemmas.Grind.{common_steps}
 use Rattle.arr_core.specs.Domains.{gap}
 use Rattle.tile_kernel.proofs.Places.{written_back}
 use Rattle.tile_columns.specs.Locating.{tile_on, rank_on}
@@ -41,3 +42,6 @@ returns-clause-tiles c = λ k lt.
 pub returns-clause-ranks : goal.returns-clause-ranks
 returns-clause-ranks c = λ k lt.
     ap (λ l. get_or l k 0) (written_back c.args.ranks.now.len c.loop-place.within _ (omega (arith, c.args.ranks.now.ok.0))) ∙ c.loop-place.invariant.ranks k (omega arith)
+
+pub returns-clause-places : goal.returns-clause-places
+returns-clause-places c = grind (arith, common_steps)

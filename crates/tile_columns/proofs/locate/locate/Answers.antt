@@ -1,7 +1,8 @@
 -- From nothing, along all axes.
-use Rattle.std.proofs.Common.{◌∙◌, ap, sym, subst, length, get_or}
+use Rattle.std.proofs.Common.{◌∙◌, ap, sym, subst, length, get_or, arith}
 use Rattle.std.specs.List.{All}
 use Rattle.std.specs.Prelude.{◌≡◌, ℕ, List, replicate}
+use Rattle.std.proofs.lemmas.Grind.{common_steps}
 use Rattle.arr_core.specs.declared.domain.Axis.{Axis}
 use Rattle.arr_core.specs.Domains.{IsInside}
 use Rattle.arr_core.specs.Tiles.{edge_of}
@@ -40,3 +41,6 @@ returns-clause-ranks c =
     (λ k lt. c.in_ok-add_axes.ensures.counted.1 k lt
     ∙ ap (λ n. rank_from n c.axes-axes.result.now (get_or c.clear_counts.new.scratch.ranks.items k 0) (point_of c.args.reading.now.indexes.now c.args.frame.now k)) (edge c.tile_edge.ensures.value c.axes-axes.ensures.value)
     ∙ ap (λ a. rank_from (edge_of (length a)) a (get_or c.clear_counts.new.scratch.ranks.items k 0) (point_of c.args.reading.now.indexes.now c.args.frame.now k)) c.axes-axes.ensures.value)
+
+pub add_axes-requires-clause-places : goal.add_axes-requires-clause-places
+add_axes-requires-clause-places c = grind (arith, common_steps)

@@ -70,3 +70,15 @@ returns-after-loop-step t c =
     let all : c.loop-step.step ≡ size_of c.own-item.result = omega (arith, c.size-rows.ensures.value) in
     c.loop-step.invariant
     ∙ ap (λ l. c.args.list.now.items ++ l) (all_rows area part _ _ _ _ c.args.first c.offset-skipped.result c.count_points-row.result c.loop-step.step area_is part_is c.offset-skipped.ensures.gap c.count_points-row.ensures.count all x.low)
+
+pub push_run-requires-then-is_empty : goal.push_run-requires-then-is_empty
+push_run-requires-then-is_empty t c = grind (arith, common_steps)
+
+pub count_points-row-requires-clause-ordered : goal.count_points-row-requires-clause-ordered
+count_points-row-requires-clause-ordered t c = grind (arith, common_steps)
+
+pub count_points-row-requires-clause-few : goal.count_points-row-requires-clause-few
+count_points-row-requires-clause-few t c = grind (arith, common_steps)
+
+pub returns-in-empty : goal.returns-in-empty
+returns-in-empty t c = grind (arith, common_steps)

@@ -1,7 +1,8 @@
 -- The cells of one tile's places.
-use Rattle.std.proofs.Common.{◌≡◌, ◌-◌, ◌<◌, ◌∙◌, ap, sym, subst, get_or, take, drop, map, [], List, ℕ, ℤ}
+use Rattle.std.proofs.Common.{◌≡◌, ◌-◌, ◌<◌, ◌∙◌, ap, sym, subst, get_or, take, drop, map, [], List, ℕ, ℤ, arith}
 use Rattle.std.specs.Prelude.{slice_get}
 use Rattle.std.specs.List.{All}
+use Rattle.std.proofs.lemmas.Grind.{common_steps}
 use Rattle.arr_core.specs.declared.domain.Axis.{Axis}
 use Rattle.arr_core.specs.Domains.{count}
 use Rattle.arr_core.specs.Tiles.{tile_boxes}
@@ -66,3 +67,9 @@ returns-clause-value g c = λ i before.
     subst (λ (l : List Spot). StandAt l want c.write_at_spots.new.cells.items c.end_of-to.result) (sym kept.spots)
     (read_on spots c.args.from c.end_of-to.result want c.fetch_cells.new.scratch.picked.items c.fetch_cells.new.scratch.cells.items c.write_at_spots.new.cells.items h writes picked
     (subst (λ (l : List ℤ). StandAt spots want l c.args.from) (sym kept.cells) before))
+
+pub write_at_spots-requires-clause-picked : goal.write_at_spots-requires-clause-picked
+write_at_spots-requires-clause-picked g c = grind (arith, common_steps)
+
+pub write_at_spots-requires-clause-places : goal.write_at_spots-requires-clause-places
+write_at_spots-requires-clause-places g c = grind (arith, common_steps)

@@ -1,6 +1,7 @@
 -- After the last stretch the cells of all places have been read.
 use Rattle.std.proofs.Common.{◌+◌, ◌≤◌, ◌∙◌, sym, subst, arith, length, get_or, take, [], List, ℕ, ℤ}
 use Rattle.std.proofs.lemmas.List.{length-map}
+use Rattle.std.proofs.lemmas.Grind.{common_steps}
 use Rattle.plan_ir.specs.Run.{numbers_at}
 use Rattle.arr_core.specs.Meeting.{tile_number}
 use Rattle.plan_ir.specs.Units.{distinct}
@@ -42,3 +43,9 @@ returns-clause-value g c = λ i.
     let n = length-map c.args.frame.now (λ e. tile_number c.args.reading.now.domain.now (numbers_at e c.args.reading.now.indexes.now)) in
     all_read (tiles_of c.args.reading.now c.args.frame.now) (ranks_of c.args.reading.now c.args.frame.now) c.loop-from.scratch.spots.items c.args.frame.now [] (cell_read (g.S.Tiles.state c.args.source.now) c.args.reading.now) c.loop-from.scratch.cells.items c.loop-from.from
     inv.ordered.spots n inv.ordered.cells (omega (arith, c.loop-from-test.false, c.len.ensures)) (inv.value i)
+
+pub order_places-requires : goal.order_places-requires
+order_places-requires g c = grind (arith, common_steps)
+
+pub returns-clause-fetched : goal.returns-clause-fetched
+returns-clause-fetched g c = grind (arith, common_steps)

@@ -1,6 +1,7 @@
 -- The variables of the axes behind the first one, and the first one in the place that was kept for it.
 use Rattle.std.proofs.Common.{◌≡◌, ◌∙◌, ◌+◌, ◌-◌, ◌*◌, arith, rules, ap, refl, length, take, drop, SFits, w32, to_z, of_z}
 use Rattle.std.proofs.lemmas.Int.{to_z-of_z}
+use Rattle.std.proofs.lemmas.Grind.{common_steps}
 use Rattle.arr_core.specs.Domains.{gap}
 use Rattle.arr_core.proofs.FirstAxis.{cut}
 use Rattle.tile_columns.proofs.Turns.{gap_of}
@@ -44,3 +45,15 @@ returns-in_ok-behind-in-len1-up-clause-added t c =
     (to_z w32 (of_z w32 c.tile_bounds-lo.result.0)) (to_z w32 (of_z w32 c.tile_bounds-lo.result.1)) c.args.variables.now.items c.push.new.self.items c.push_tile.new.variables.items _ c.in_ok-behind-in-len1-up.behind _
     e c.in_ok-push-in-len1-up.ensures.items c.in_ok-behind-in-len1-up.ensures.added level c.tiles_along-along.ensures.value
     (same_lo ∙ c.tile_bounds-lo.ensures.lo) (same_hi ∙ c.tile_bounds-lo.ensures.hi) refl refl (ap (λ d. (d + 1) * c.in_ok-behind-in-len1-up.behind.points) c.distance.ensures.gap)
+
+pub push_tile-requires : goal.push_tile-requires
+push_tile-requires t c = grind (arith, common_steps)
+
+pub index_mut-requires : goal.index_mut-requires
+index_mut-requires t c = grind (arith, common_steps)
+
+pub returns-in-empty-clause-added : goal.returns-in-empty-clause-added
+returns-in-empty-clause-added t c = grind (arith, common_steps)
+
+pub returns-in-empty-clause-few : goal.returns-in-empty-clause-few
+returns-in-empty-clause-few t c = grind (arith, common_steps)

@@ -1,6 +1,7 @@
 -- One more place has the value and the fault of the operation on both operands there.
 use Rattle.std.proofs.Common.{◌≡◌, ◌∙◌, ap, sym, arith, SFits, w64, rules}
 use Rattle.std.proofs.lemmas.Int.{to_z-of_z}
+use Rattle.std.proofs.lemmas.Grind.{common_steps}
 use Rattle.wcps_mean.specs.Cells.{operate2}
 use Rattle.tile_kernel.specs.Columns.{outcome_of, outcome_at}
 use Rattle.tile_kernel.proofs.Places.{outcome_there, mixed_written}
@@ -15,3 +16,12 @@ loop-place-preserved c =
     mixed_written (λ k. operate2 c.args.op (outcome_at c.args.left.now k) (outcome_at c.args.right.now k)) c.loop-place.numbers c.loop-place.marks place _ c.parts-value.result.1 (omega arith) (omega arith) c.loop-place.invariant
     (ap (λ z. outcome_of z c.parts-value.result.1) (to_z-of_z w64 c.parts-value.result.0 fits) ∙ c.parts-value.ensures ∙ c.operate_both.ensures
     ∙ ap (λ o. operate2 c.args.op o c.at-in-loop-place.result) (sym left) ∙ ap (operate2 c.args.op (outcome_at c.args.left.now place)) (sym right))
+
+pub returns-clause-values : goal.returns-clause-values
+returns-clause-values c = grind (arith, common_steps)
+
+pub returns-clause-faults : goal.returns-clause-faults
+returns-clause-faults c = grind (arith, common_steps)
+
+pub returns-clause-outcomes : goal.returns-clause-outcomes
+returns-clause-outcomes c = grind (arith, common_steps)

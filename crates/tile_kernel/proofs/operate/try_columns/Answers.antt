@@ -1,6 +1,7 @@
 -- Where the left operand is values, a trial that succeeds has written the operation's value at each place.
 use Rattle.std.proofs.Common.{refl, ◌≡◌, ◌∙◌, ap, arith, sym, length, get_or, pos, rules, SFits, w64}
 use Rattle.std.proofs.lemmas.Int.{to_z-of_z}
+use Rattle.std.proofs.lemmas.Grind.{common_steps}
 use Rattle.wcps_mean.specs.declared.cell.Outcome.TheVariants.{Value}
 use Rattle.wcps_mean.specs.Cells.{operate2}
 use Rattle.tile_kernel.specs.Columns.{outcome_at}
@@ -33,3 +34,36 @@ returns-in-Value-clause-value c = λ t k lt.
     ∙ ap (λ z. operate2 c.args.op (Value z) (outcome_at c.args.right.now k)) (sym (to_z-of_z w64 c.in-Value.value fits))
     ∙ c.try_right-in-Value.ensures t k (omega arith)
     ∙ ap (λ l. Value (get_or l k (pos 0))) (sym (written_back c.args.out.now.len out _ (omega (arith, c.args.out.now.ok.0))))
+
+pub try_right-requires-clause-right : goal.try_right-requires-clause-right
+try_right-requires-clause-right c = grind (arith, common_steps)
+
+pub try_right-requires-clause-out : goal.try_right-requires-clause-out
+try_right-requires-clause-out c = grind (arith, common_steps)
+
+pub returns-in-Values-clause-room : goal.returns-in-Values-clause-room
+returns-in-Values-clause-room c = grind (arith, common_steps)
+
+pub try_right-requires-in-Narrow-clause-right : goal.try_right-requires-in-Narrow-clause-right
+try_right-requires-in-Narrow-clause-right c = grind (arith, common_steps)
+
+pub try_right-requires-in-Narrow-clause-out : goal.try_right-requires-in-Narrow-clause-out
+try_right-requires-in-Narrow-clause-out c = grind (arith, common_steps)
+
+pub returns-in-Narrow-clause-room : goal.returns-in-Narrow-clause-room
+returns-in-Narrow-clause-room c = grind (arith, common_steps)
+
+pub try_right-requires-in-Value-clause-right : goal.try_right-requires-in-Value-clause-right
+try_right-requires-in-Value-clause-right c = grind (arith, common_steps)
+
+pub try_right-requires-in-Value-clause-out : goal.try_right-requires-in-Value-clause-out
+try_right-requires-in-Value-clause-out c = grind (arith, common_steps)
+
+pub returns-in-Value-clause-room : goal.returns-in-Value-clause-room
+returns-in-Value-clause-room c = grind (arith, common_steps)
+
+pub returns-in-Fault-clause-room : goal.returns-in-Fault-clause-room
+returns-in-Fault-clause-room c = grind (arith, common_steps)
+
+pub returns-in-Mixed-clause-room : goal.returns-in-Mixed-clause-room
+returns-in-Mixed-clause-room c = grind (arith, common_steps)

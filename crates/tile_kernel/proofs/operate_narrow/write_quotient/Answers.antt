@@ -2,6 +2,7 @@
 use Rattle.std.proofs.Common.{arith, pos, ◌≤ℤ◌, subst, sym}
 use Rattle.std.specs.Int.{w32}
 use Rattle.std.proofs.lemmas.Int.{ints, to_z-of_z}
+use Rattle.std.proofs.lemmas.Grind.{common_steps}
 use Rattle.tile_kernel.proofs.Narrow.{quotient_fits}
 use Rattle.tile_kernel.proofs.operate_narrow.write_quotient.Goals as goal
 
@@ -29,3 +30,27 @@ write_narrow-requires-in-1000-clause-narrow g c = λ k lt p q. quotient_fits _ (
 pub write_narrow-requires-in_default-clause-narrow : goal.write_narrow-requires-in_default-clause-narrow
 write_narrow-requires-in_default-clause-narrow g c = λ k lt p q.
     quotient_fits _ _ p (subst (λ d. pos 1 ≤ℤ d) (sym (to_z-of_z w32 c.args.divisor c.ranges.divisor)) c.requires.divisor)
+
+pub returns-in-2 : goal.returns-in-2
+returns-in-2 g c = grind (arith, common_steps)
+
+pub returns-in-4 : goal.returns-in-4
+returns-in-4 g c = grind (arith, common_steps)
+
+pub returns-in-8 : goal.returns-in-8
+returns-in-8 g c = grind (arith, common_steps)
+
+pub returns-in-16 : goal.returns-in-16
+returns-in-16 g c = grind (arith, common_steps)
+
+pub returns-in-10 : goal.returns-in-10
+returns-in-10 g c = grind (arith, common_steps)
+
+pub returns-in-100 : goal.returns-in-100
+returns-in-100 g c = grind (arith, common_steps)
+
+pub returns-in-1000 : goal.returns-in-1000
+returns-in-1000 g c = grind (arith, common_steps)
+
+pub returns-in_default : goal.returns-in_default
+returns-in_default g c = grind (arith, common_steps)

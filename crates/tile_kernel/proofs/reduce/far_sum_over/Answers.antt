@@ -2,6 +2,7 @@
 use Rattle.std.proofs.Common.{◌≡◌, ◌+◌, ◌*◌, ◌/◌, ◌%◌, ◌≤◌, ◌∙◌, ap, sym, subst, arith, rules, SFits, w64, pos, ◌+ℤ◌, ◌^◌, Fits, length}
 use Rattle.std.proofs.Math.Nat.{mul-le-mul_left}
 use Rattle.std.proofs.lemmas.Int.{to_z-of_z}
+use Rattle.std.proofs.lemmas.Grind.{common_steps}
 use Rattle.wcps_mean.specs.Condensers.{total}
 use Rattle.tile_kernel.specs.Selected.{selected}
 use Rattle.tile_kernel.proofs.Reductions.{sum_next, half_next, selected_before}
@@ -61,3 +62,36 @@ loop-place-preserved g c =
       low = subst (λ n. c.loop-place.low + n * (bits % 4294967296) ≤ length (selected t v (k + 1)) * 4294967295) times (half_next t v k c.loop-place.low (bits % 4294967296) (omega arith) c.loop-place.invariant.low);
       high = subst (λ n. c.loop-place.high + n * (bits / 4294967296) ≤ length (selected t v (k + 1)) * 4294967295) times (half_next t v k c.loop-place.high (bits / 4294967296) (omega (arith, few)) c.loop-place.invariant.high);
     }
+
+pub loop-place-init : goal.loop-place-init
+loop-place-init g c = grind (arith, common_steps)
+
+pub overflow_cast-result : goal.overflow_cast-result
+overflow_cast-result g c = grind (arith, common_steps)
+
+pub overflow_cast-result-2 : goal.overflow_cast-result-2
+overflow_cast-result-2 g c = grind (arith, common_steps)
+
+pub overflow_mul-result : goal.overflow_mul-result
+overflow_mul-result g c = grind (arith, common_steps)
+
+pub overflow_add-result : goal.overflow_add-result
+overflow_add-result g c = grind (arith, common_steps)
+
+pub overflow_cast-result-3 : goal.overflow_cast-result-3
+overflow_cast-result-3 g c = grind (arith, common_steps)
+
+pub overflow_mul-result-2 : goal.overflow_mul-result-2
+overflow_mul-result-2 g c = grind (arith, common_steps)
+
+pub overflow_sub-result : goal.overflow_sub-result
+overflow_sub-result g c = grind (arith, common_steps)
+
+pub returns-clause-value : goal.returns-clause-value
+returns-clause-value g c = grind (arith, common_steps)
+
+pub returns-clause-from_below : goal.returns-clause-from_below
+returns-clause-from_below g c = grind (arith, common_steps)
+
+pub returns-clause-from_above : goal.returns-clause-from_above
+returns-clause-from_above g c = grind (arith, common_steps)

@@ -2,6 +2,7 @@
 use Rattle.std.proofs.Common.{◌≡◌, ◌∙◌, ◌++◌, sym, ap, arith, get_or, pos, take, IsTrue, SFits, w32, w64, to_z, of_z, rules}
 use Rattle.std.proofs.lemmas.Int.{to_z-of_z}
 use Rattle.std.specs.Prelude.{replicate}
+use Rattle.std.proofs.lemmas.Grind.{common_steps}
 use Rattle.tile_kernel.proofs.Repeats.{sum-more, spread-more}
 use Rattle.tile_kernel.proofs.runs.spread_narrow_over.Goals as goal
 
@@ -22,3 +23,12 @@ loop-run-preserved c =
           ∙ ap (λ l. l ++ replicate (get_or ns run 0) z) c.loop-run.invariant.front
           ∙ sym (spread-more zs ns run (omega arith) (omega arith));
     }
+
+pub write_blocks-requires : goal.write_blocks-requires
+write_blocks-requires c = grind (arith, common_steps)
+
+pub overflow_add-from : goal.overflow_add-from
+overflow_add-from c = grind (arith, common_steps)
+
+pub returns-clause-front : goal.returns-clause-front
+returns-clause-front c = grind (arith, common_steps)

@@ -2,6 +2,7 @@
 use Rattle.std.proofs.Common.{◌∙◌, ◌++◌, sym, ap, arith, get_or, pos, take, SFits, w64, rules}
 use Rattle.std.proofs.lemmas.Int.{to_z-of_z}
 use Rattle.std.specs.Prelude.{replicate}
+use Rattle.std.proofs.lemmas.Grind.{common_steps}
 use Rattle.tile_kernel.proofs.Repeats.{sum-more, spread-more}
 use Rattle.tile_kernel.proofs.runs.spread_over.Goals as goal
 
@@ -18,3 +19,12 @@ loop-run-preserved c =
           ∙ ap (λ l. l ++ replicate (get_or ns run 0) (get_or zs run (pos 0))) c.loop-run.invariant.front
           ∙ sym (spread-more zs ns run (omega arith) (omega arith));
     }
+
+pub write_run-requires : goal.write_run-requires
+write_run-requires c = grind (arith, common_steps)
+
+pub overflow_add-place : goal.overflow_add-place
+overflow_add-place c = grind (arith, common_steps)
+
+pub returns-clause-front : goal.returns-clause-front
+returns-clause-front c = grind (arith, common_steps)

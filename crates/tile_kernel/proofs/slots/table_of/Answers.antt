@@ -1,6 +1,7 @@
 -- Each number has its place in the table, and no number has one that it does not have.
 use Rattle.std.proofs.Common.{◌≡◌, ◌∙◌, ◌+◌, ◌<◌, ◌+ℤ◌, ℕ, ℤ, pos, length, length-set, set, take, take_all, sym, ap, subst, arith, SFits, rules, w64, to_z-of_z}
 use Rattle.std.proofs.lemmas.Int.{ints}
+use Rattle.std.proofs.lemmas.Grind.{common_steps}
 use Rattle.tile_kernel.specs.Keyed.{number_at, IsTable}
 use Rattle.tile_kernel.proofs.Rising.{table_next}
 use Rattle.tile_kernel.proofs.slots.table_of.Goals as goal
@@ -26,3 +27,6 @@ pub returns : goal.returns
 returns c =
     subst (IsTable c.args.low c.loop-k.table.items) (take_all c.loop-k.k c.args.numbers.now (omega arith))
     (subst (λ (x : ℤ). IsTable x c.loop-k.table.items (take c.loop-k.k c.args.numbers.now)) (to_z-of_z c.ranges.low) c.loop-k.invariant.1)
+
+pub loop-k-init : goal.loop-k-init
+loop-k-init c = grind (arith, common_steps)

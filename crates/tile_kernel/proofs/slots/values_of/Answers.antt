@@ -1,6 +1,7 @@
 -- Each place adds its value, or nothing.
 use Rattle.std.proofs.Common.{◌≡◌, ◌∙◌, ◌++◌, ◌∷◌, [], ℤ, List, Vec, Global, length, take, take_all, sym, ap, arith, rules, SFits, w64, to_z-of_z}
 use Rattle.std.proofs.lemmas.List.{append-nil}
+use Rattle.std.proofs.lemmas.Grind.{common_steps}
 use Rattle.wcps_mean.specs.declared.cell.Outcome.{Outcome}
 use Rattle.wcps_mean.specs.Condensers.{values}
 use Rattle.tile_kernel.proofs.Rising.{few_values, next_values}
@@ -27,3 +28,6 @@ returns-clause-few c =
     let all : length c.loop-place.numbers.items ≡ length (values column) = ap length (c.loop-place.invariant ∙ ap values (take_all c.loop-place.place column (omega arith))) in
     let few = few_values column in
     omega (arith, all, few)
+
+pub returns-clause-values : goal.returns-clause-values
+returns-clause-values c = grind (arith, common_steps)

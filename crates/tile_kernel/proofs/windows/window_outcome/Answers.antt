@@ -1,6 +1,7 @@
 -- One more row of the window is in the summary, and in the end all in the span.
 use Rattle.std.proofs.Common.{◌≡◌, ℕ, ◌-◌, ◌<◌, ◌≤◌, ◌^◌, arith, subst, sym, length, get_or, List, ℤ}
 use Rattle.std.specs.List.{flat_map, range_with_len}
+use Rattle.std.proofs.lemmas.Grind.{common_steps}
 use Rattle.tile_kernel.specs.Windows.{cells_across, window}
 use Rattle.tile_kernel.proofs.Spans.{one_row_more, combined_of, few_more, few_in_all, place_within}
 use Rattle.tile_kernel.proofs.windows.window_outcome.Goals as goal
@@ -47,3 +48,12 @@ returns g c =
     let h : ℕ → List ℤ = cells_across c.args.grid.now across in
     combined_of g.S.Summary.op (g.S.Summary.keeps c.loop-row.all) c.outcome.result (window c.args.grid.now c.args.down across) c.outcome.ensures
     (subst (λ n. g.S.Summary.keeps c.loop-row.all (flat_map h (range_with_len from n))) end c.loop-row.invariant.kept)
+
+pub loop-row-init : goal.loop-row-init
+loop-row-init g c = grind (arith, common_steps)
+
+pub overflow_mul-row : goal.overflow_mul-row
+overflow_mul-row g c = grind (arith, common_steps)
+
+pub overflow_add-row : goal.overflow_add-row
+overflow_add-row g c = grind (arith, common_steps)

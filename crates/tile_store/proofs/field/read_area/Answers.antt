@@ -56,3 +56,6 @@ loop-tile-preserved g c =
       frame = reads_then _ _ _ inv.frame c.in_ok-copy_tile.ensures.frame;
       quiet = c.in_ok-copy_tile.ensures.told.quiet (λ e. cc) ∙ inv.quiet;
     }
+
+pub loop-tile-init : goal.loop-tile-init
+loop-tile-init g c = grind (arith, common_steps)

@@ -2,6 +2,7 @@
 use Rattle.std.proofs.Common.{rules, arith, ◌≡◌, ◌∙◌, ap, sym, length, get_or, List, ℕ, ◌<◌, subst, w64, ℤ, pos}
 use Rattle.std.proofs.lemmas.Int.{to_z-of_z}
 use Rattle.std.proofs.lemmas.List.{get_or_read}
+use Rattle.std.proofs.lemmas.Grind.{common_steps}
 use Rattle.arr_core.specs.declared.domain.Axis.{Axis}
 use Rattle.arr_core.specs.Domains.{points, IsInside, rank_of}
 use Rattle.arr_core.proofs.Grids.{in-no-other}
@@ -37,3 +38,33 @@ returns-clause-read g c = λ honest.
           ∙ cell_listed (tile_box f.domain.now tile) (number_in f s) point c.tile_of-tile.ensures.inside.1,
       subst (λ (t : ℕ). IsSpelledIn f s t) own (c.in_ok-cells.ensures.read.spelled honest),
     )
+
+pub returns-in_err-part-clause-read : goal.returns-in_err-part-clause-read
+returns-in_err-part-clause-read g c = grind (arith, common_steps)
+
+pub returns-in_err-part-clause-why : goal.returns-in_err-part-clause-why
+returns-in_err-part-clause-why g c = grind (arith, common_steps)
+
+pub returns-in_err-part-clause-frame : goal.returns-in_err-part-clause-frame
+returns-in_err-part-clause-frame g c = grind (arith, common_steps)
+
+pub returns-in_err-part-clause-told : goal.returns-in_err-part-clause-told
+returns-in_err-part-clause-told g c = grind (arith, common_steps)
+
+pub returns-in_err-cells-clause-read : goal.returns-in_err-cells-clause-read
+returns-in_err-cells-clause-read g c = grind (arith, common_steps)
+
+pub returns-in_err-cells-clause-frame : goal.returns-in_err-cells-clause-frame
+returns-in_err-cells-clause-frame g c = grind (arith, common_steps)
+
+pub returns-in_err-cells-clause-told : goal.returns-in_err-cells-clause-told
+returns-in_err-cells-clause-told g c = grind (arith, common_steps)
+
+pub returns-clause-why : goal.returns-clause-why
+returns-clause-why g c = grind (arith, common_steps)
+
+pub returns-clause-frame : goal.returns-clause-frame
+returns-clause-frame g c = grind (arith, common_steps)
+
+pub returns-clause-told : goal.returns-clause-told
+returns-clause-told g c = grind (arith, common_steps)

@@ -54,3 +54,36 @@ returns-after-loop-step t c =
     let all : c.loop-step.step ≡ c.common_of-common.result.count = omega arith in
     written_all _ _ _ _ _ _ _ _ _ _ (number_of c.args.numbers.now) _ _ (by_first c.args.to_axes.now c.a-item.result c.in-len1-up.len_at_least c.a-item.is) (by_first c.args.axes.now c.b-item.result c.in-len1-up-axes.len_at_least c.b-item.is)
     c.count_points-to_row.ensures.count c.count_points-row.ensures.count c.common_of-common.ensures.common (rw all at c.loop-step.invariant)
+
+pub write_first-requires-clause-to : goal.write_first-requires-clause-to
+write_first-requires-clause-to t c = grind (arith, common_steps)
+
+pub write_run-requires-clause-to : goal.write_run-requires-clause-to
+write_run-requires-clause-to t c = grind (arith, common_steps)
+
+pub write_run-requires-clause-few : goal.write_run-requires-clause-few
+write_run-requires-clause-few t c = grind (arith, common_steps)
+
+pub count_points-to_row-requires-clause-ordered : goal.count_points-to_row-requires-clause-ordered
+count_points-to_row-requires-clause-ordered t c = grind (arith, common_steps)
+
+pub count_points-to_row-requires-clause-few : goal.count_points-to_row-requires-clause-few
+count_points-to_row-requires-clause-few t c = grind (arith, common_steps)
+
+pub count_points-row-requires-clause-ordered : goal.count_points-row-requires-clause-ordered
+count_points-row-requires-clause-ordered t c = grind (arith, common_steps)
+
+pub count_points-row-requires-clause-few : goal.count_points-row-requires-clause-few
+count_points-row-requires-clause-few t c = grind (arith, common_steps)
+
+pub overflow_add-from_at-in-loop-step : goal.overflow_add-from_at-in-loop-step
+overflow_add-from_at-in-loop-step t c = grind (arith, common_steps)
+
+pub overflow_add-to_at-in-loop-step : goal.overflow_add-to_at-in-loop-step
+overflow_add-to_at-in-loop-step t c = grind (arith, common_steps)
+
+pub slice_bounds-overlay-end : goal.slice_bounds-overlay-end
+slice_bounds-overlay-end t c = grind (arith, common_steps)
+
+pub returns-in-empty-axes : goal.returns-in-empty-axes
+returns-in-empty-axes t c = grind (arith, common_steps)

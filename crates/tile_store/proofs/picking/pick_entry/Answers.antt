@@ -1,6 +1,7 @@
 -- The runs that were walked are the tile's.
-use Rattle.std.proofs.Common.{◌≡◌, ◌∙◌, List, ℤ, Err, ap, sym, subst}
+use Rattle.std.proofs.Common.{◌≡◌, ◌∙◌, List, ℤ, Err, ap, sym, subst, arith}
 use Rattle.std.proofs.lemmas.Result.{err_from_is_err_and}
+use Rattle.std.proofs.lemmas.Grind.{common_steps}
 use Rattle.file_bytes.specs.declared.form.Form.{Form}
 use Rattle.file_bytes.specs.declared.form.Form.TheVariants.{Runs}
 use Rattle.run_tile.specs.Raw.{cells_in}
@@ -32,3 +33,9 @@ returns-in_ok-pick_runs-in-Runs-clause-picked g c = λ honest.
     let there : c.deref.result.now ≡ entry_data s.content e = c.deref.ensures.value ∙ c.in_ok-read_bytes-in-Runs.ensures.value honest in
     let same : cells_as e.form c.args.kind s e ≡ cells_in Runs c.args.kind c.deref.result.now = ap (λ (f : Form). cells_in f c.args.kind (entry_data s.content e)) c.in-Runs.is ∙ ap (cells_in Runs c.args.kind) (sym there) in
     c.in_ok-pick_runs-in-Runs.ensures.picked ∙ ap (λ (l : List ℤ). picked l c.args.ranks.now) (sym same)
+
+pub returns-in_ok-resize-in-Raw-clause-picked : goal.returns-in_ok-resize-in-Raw-clause-picked
+returns-in_ok-resize-in-Raw-clause-picked g c = grind (arith, common_steps)
+
+pub returns-in_ok-resize-in-Raw-clause-counted : goal.returns-in_ok-resize-in-Raw-clause-counted
+returns-in_ok-resize-in-Raw-clause-counted g c = grind (arith, common_steps)

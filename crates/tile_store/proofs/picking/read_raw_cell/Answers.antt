@@ -1,5 +1,6 @@
 -- The cell stands in the block that was read, at its place there.
-use Rattle.std.proofs.Common.{◌≡◌, ◌∙◌, ◌*◌, ◌/◌, rules, refl, ℕ, ap, SFits, w64, to_z-of_z, get_or, subst}
+use Rattle.std.proofs.Common.{◌≡◌, ◌∙◌, ◌*◌, ◌/◌, rules, refl, ℕ, ap, SFits, w64, to_z-of_z, get_or, subst, arith}
+use Rattle.std.proofs.lemmas.Grind.{common_steps}
 use Rattle.block_file.specs.State.{one, times}
 use Rattle.block_file.specs.Words.{OnlyReads}
 use Rattle.block_file.proofs.Times.{one_times}
@@ -42,3 +43,27 @@ pub returns-clause-frame : goal.returns-clause-frame
 returns-clause-frame g c =
     let here = stands c.args.kind _ c.args.entry.now c.args.rank c.width-size.result c.width-size.ensures c.requires.entry c.if-entry-size.false in
     reads_more _ _ _ _ (one_times c.args.entry.now.blocks (c.args.rank * c.width-size.result / 4096) here.within) (rw c.as_slice-numbers.ensures at c.in_ok-turn_to.ensures.frame)
+
+pub returns-then-entry-size-clause-frame : goal.returns-then-entry-size-clause-frame
+returns-then-entry-size-clause-frame g c = grind (arith, common_steps)
+
+pub returns-then-entry-size-clause-told : goal.returns-then-entry-size-clause-told
+returns-then-entry-size-clause-told g c = grind (arith, common_steps)
+
+pub overflow_mul-from : goal.overflow_mul-from
+overflow_mul-from g c = grind (arith, common_steps)
+
+pub returns-in_err-turn_to-clause-cell : goal.returns-in_err-turn_to-clause-cell
+returns-in_err-turn_to-clause-cell g c = grind (arith, common_steps)
+
+pub returns-in_err-turn_to-clause-last : goal.returns-in_err-turn_to-clause-last
+returns-in_err-turn_to-clause-last g c = grind (arith, common_steps)
+
+pub returns-clause-last : goal.returns-clause-last
+returns-clause-last g c = grind (arith, common_steps)
+
+pub returns-clause-why : goal.returns-clause-why
+returns-clause-why g c = grind (arith, common_steps)
+
+pub returns-clause-told : goal.returns-clause-told
+returns-clause-told g c = grind (arith, common_steps)

@@ -1,5 +1,6 @@
 -- What was decoded is what the tile's bytes spell.
-use Rattle.std.proofs.Common.{ap, sym, subst, ◌∙◌, option_copied}
+use Rattle.std.proofs.Common.{ap, sym, subst, ◌∙◌, option_copied, arith}
+use Rattle.std.proofs.lemmas.Grind.{common_steps}
 use Rattle.block_file.specs.Words.{OnlyReads}
 use Rattle.tile_store.specs.Listing.{entry_times}
 use Rattle.tile_store.proofs.Cells.{read_some}
@@ -24,3 +25,6 @@ pub returns-in_ok-decode_into-in-Some-clause-frame : goal.returns-in_ok-decode_i
 returns-in_ok-decode_into-in-Some-clause-frame g c =
     let state = g.B.Blocks.state in
     subst (λ o. OnlyReads (entry_times o) (state c.args.blocks.now) (state c.read_bytes.new.blocks)) (sym (ap option_copied c.in-Some.is)) c.in_ok-read_bytes-in-Some.ensures.frame
+
+pub returns-in_ok-resize-in-None-clause-read : goal.returns-in_ok-resize-in-None-clause-read
+returns-in_ok-resize-in-None-clause-read g c = grind (arith, common_steps)

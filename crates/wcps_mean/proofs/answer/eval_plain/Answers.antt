@@ -1,6 +1,7 @@
 -- One more combination has given its item, if any, and the fault of the first one with a fault is the answer.
 use Rattle.std.proofs.Common.{◌<◌, ◌∙◌, ap, sym, arith, length, get_or, Ok}
 use Rattle.std.proofs.lemmas.Result.{err_from_is_err_and}
+use Rattle.std.proofs.lemmas.Grind.{common_steps}
 use Rattle.wcps_types.specs.Renamed.{combination_view}
 use Rattle.wcps_types.specs.TypedQueries.{trees_in}
 use Rattle.wcps_types.specs.Cells.{max_cells}
@@ -68,3 +69,12 @@ push_combination-requires g c =
     let is = c.combination-item.is ∙ ap (λ l. get_or l c.loop-combination.combination-index x) c.combinations-combination-items.ensures in
     let lt : c.loop-combination.combination-index < length all = omega (arith, ap length c.combinations-combination-items.ensures) in
     record { few_cells = few_in_one view all c.loop-combination.combination-index x max_cells lt is c.args.query.now.few_cells }
+
+pub loop-combination-init : goal.loop-combination-init
+loop-combination-init g c = grind (arith, common_steps)
+
+pub returns-clause-leaves : goal.returns-clause-leaves
+returns-clause-leaves g c = grind (arith, common_steps)
+
+pub returns-clause-reports : goal.returns-clause-reports
+returns-clause-reports g c = grind (arith, common_steps)

@@ -2,6 +2,7 @@
 use Rattle.std.proofs.Common.{rules, ◌≡◌, ◌<◌, ◌≤◌, ◌∙◌, ap, refl, sym, subst, arith, length, map, get_or, false, List, [], ◌∷◌, ◌++◌, append_assoc, Result, Ok, w64, SFits}
 use Rattle.std.proofs.lemmas.Int.{to_z-of_z}
 use Rattle.std.proofs.lemmas.Result.{err_from_is_err_and}
+use Rattle.std.proofs.lemmas.Grind.{common_steps}
 use Rattle.wcps_types.specs.Typed.{FieldTree, field_tree, fields_view}
 use Rattle.wcps_types.specs.Renamed.{renamed, renamed_field}
 use Rattle.wcps_mean.proofs.FewCells.{fields_over}
@@ -89,3 +90,42 @@ returns-in_err-o-clause-reports g c =
     let inv = c.loop-field.invariant in
     let p = err_from_is_err_and c.from_residual.result c.from_residual.ensures.1 in
     rw (p.1, p.2) (tells-from _ _ _ _ inv.leaves.intact inv.failures c.in_err-o.ensures.reports)
+
+pub loop-field-init : goal.loop-field-init
+loop-field-init g c = grind (arith, common_steps)
+
+pub returns-in_err-o-clause-pushed : goal.returns-in_err-o-clause-pushed
+returns-in_err-o-clause-pushed g c = grind (arith, common_steps)
+
+pub returns-in_err-o-clause-scope : goal.returns-in_err-o-clause-scope
+returns-in_err-o-clause-scope g c = grind (arith, common_steps)
+
+pub returns-in_err-o-clause-leaves : goal.returns-in_err-o-clause-leaves
+returns-in_err-o-clause-leaves g c = grind (arith, common_steps)
+
+pub returns-in-Fault-clause-leaves : goal.returns-in-Fault-clause-leaves
+returns-in-Fault-clause-leaves g c = grind (arith, common_steps)
+
+pub returns-in-Fault-clause-reports : goal.returns-in-Fault-clause-reports
+returns-in-Fault-clause-reports g c = grind (arith, common_steps)
+
+pub returns-in_err-push-in-Value-clause-pushed : goal.returns-in_err-push-in-Value-clause-pushed
+returns-in_err-push-in-Value-clause-pushed g c = grind (arith, common_steps)
+
+pub returns-in_err-push-in-Value-clause-scope : goal.returns-in_err-push-in-Value-clause-scope
+returns-in_err-push-in-Value-clause-scope g c = grind (arith, common_steps)
+
+pub returns-in_err-push-in-Value-clause-leaves : goal.returns-in_err-push-in-Value-clause-leaves
+returns-in_err-push-in-Value-clause-leaves g c = grind (arith, common_steps)
+
+pub returns-in_err-push-in-Value-clause-reports : goal.returns-in_err-push-in-Value-clause-reports
+returns-in_err-push-in-Value-clause-reports g c = grind (arith, common_steps)
+
+pub returns-clause-scope : goal.returns-clause-scope
+returns-clause-scope g c = grind (arith, common_steps)
+
+pub returns-clause-leaves : goal.returns-clause-leaves
+returns-clause-leaves g c = grind (arith, common_steps)
+
+pub returns-clause-reports : goal.returns-clause-reports
+returns-clause-reports g c = grind (arith, common_steps)

@@ -3,6 +3,7 @@ use Rattle.std.proofs.Common.{rules, ◌≡◌, ◌<◌, ◌≤◌, ◌+◌, ◌
 use Rattle.std.specs.List.{flat_map}
 use Rattle.std.proofs.lemmas.Int.{to_z-of_z}
 use Rattle.std.proofs.lemmas.Result.{err_from_is_err_and}
+use Rattle.std.proofs.lemmas.Grind.{common_steps}
 use Rattle.arr_core.specs.Domains.{points}
 use Rattle.std.specs.Prelude.{pos}
 use Rattle.wcps_types.specs.declared.typed.Node.{Node}
@@ -240,3 +241,36 @@ eval-returns-in-Some-clause-value g t c =
     let at : c.in-Some.part.now ≡ get_or c.in-Record.parts.items c.args.field c.in-Some.part.now = search rules in
     let shown : field_tree c.args.e.now c.args.field ≡ only_tree c.in-Some.part.now = ap (λ (n : Node). field_tree n c.args.field) c.in-Record.is ∙ record_part c.in-Record.parts c.args.field c.in-Some.part.now c.in-Some.part.now inside at in
     rw shown c.eval-in-Some.ensures.value
+
+pub at_coordinate-eval-requires : goal.at_coordinate-eval-requires
+at_coordinate-eval-requires g t c κs within = grind (arith, common_steps)
+
+pub at_coordinate-remove-requires : goal.at_coordinate-remove-requires
+at_coordinate-remove-requires g t c = grind (arith, common_steps)
+
+pub at_coordinate-returns-clause-value : goal.at_coordinate-returns-clause-value
+at_coordinate-returns-clause-value g t c = grind (arith, common_steps)
+
+pub at_coordinate-returns-clause-scope : goal.at_coordinate-returns-clause-scope
+at_coordinate-returns-clause-scope g t c = grind (arith, common_steps)
+
+pub at_empty_point-returns-clause-value : goal.at_empty_point-returns-clause-value
+at_empty_point-returns-clause-value g t c = grind (arith, common_steps)
+
+pub at_iterators-returns-clause-value : goal.at_iterators-returns-clause-value
+at_iterators-returns-clause-value g t c = grind (arith, common_steps)
+
+pub at_iterators-returns-clause-scope : goal.at_iterators-returns-clause-scope
+at_iterators-returns-clause-scope g t c = grind (arith, common_steps)
+
+pub condense-returns-clause-value : goal.condense-returns-clause-value
+condense-returns-clause-value g t c = grind (arith, common_steps)
+
+pub eval-returns-in-List-clause-value : goal.eval-returns-in-List-clause-value
+eval-returns-in-List-clause-value g t c = grind (arith, common_steps)
+
+pub reduce-eval-requires : goal.reduce-eval-requires
+reduce-eval-requires g t c κs within = grind (arith, common_steps)
+
+pub reduce-returns-clause-value : goal.reduce-returns-clause-value
+reduce-returns-clause-value g t c = grind (arith, common_steps)

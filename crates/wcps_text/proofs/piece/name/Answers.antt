@@ -1,5 +1,6 @@
 -- A name or a keyword is as long as it can be, and one of more than 64 bytes is refused.
 use Rattle.std.proofs.Common.{◌≡◌, ◌+◌, None, Some, refl, arith}
+use Rattle.std.proofs.lemmas.Grind.{common_steps}
 use Rattle.wcps_text.specs.Lexing.{long_plain, reserved, plain, no_token}
 use Rattle.wcps_text.proofs.Fronts.{run_behind, name_front, last_of, letter_high}
 use Rattle.arr_core.specs.declared.keyword.Keyword.{Keyword}
@@ -25,3 +26,6 @@ returns-in-None-clause-exact c =
 
 pub returns-in-Some-clause-last : goal.returns-in-Some-clause-last
 returns-in-Some-clause-last c = last_of c.args.bytes.now c.run-count.result c.requires.some (letter_high _ c.requires.letter) c.run-count.ensures.last
+
+pub returns-in-None-clause-last : goal.returns-in-None-clause-last
+returns-in-None-clause-last c = grind (arith, common_steps)

@@ -2,6 +2,7 @@
 use Rattle.std.proofs.Common.{◌≡◌, ◌+◌, ◌/◌, ◌%◌, ◌∷◌, ◌++◌, length, drop, map, [], arith, ap, sym, ◌∙◌, append_assoc, rules}
 use Rattle.std.specs.Prelude.{slice_index}
 use Rattle.std.proofs.lemmas.List.{get_or_read}
+use Rattle.std.proofs.lemmas.Grind.{common_steps}
 use Rattle.wcps_types.specs.Bindings.{choice_view, combination_at, bound_to}
 use Rattle.wcps_types.proofs.Choices.{step}
 use Rattle.wcps_types.proofs.bindings.combination_at.Goals as goal
@@ -33,3 +34,12 @@ loop-choice-preserved c =
       inside = s.inside;
       chosen = ap (λ items. items ++ more) pushed ∙ assoc ∙ ap (λ rest. c.loop-choice.bound.items ++ rest) (sym s.made) ∙ inv.chosen;
     }
+
+pub nonzero_div-rest : goal.nonzero_div-rest
+nonzero_div-rest c = grind (arith, common_steps)
+
+pub nonzero_div-number : goal.nonzero_div-number
+nonzero_div-number c = grind (arith, common_steps)
+
+pub returns : goal.returns
+returns c = grind (arith, common_steps)

@@ -1,6 +1,7 @@
 -- The shape has one axis fewer, and each of its fields is sliced at the position.
-use Rattle.std.proofs.Common.{◌≡◌, ◌∙◌, ap, sym, map, List, rules}
+use Rattle.std.proofs.Common.{◌≡◌, ◌∙◌, ap, sym, map, List, rules, arith}
 use Rattle.std.specs.Prelude.{Some, slice_get, remove, option_map}
+use Rattle.std.proofs.lemmas.Grind.{common_steps}
 use Rattle.arr_core.specs.declared.domain.Axis.{Axis}
 use Rattle.arr_core.specs.Domains.{axis_place}
 use Rattle.wcps_types.specs.declared.typed.Node.{Node}
@@ -29,3 +30,15 @@ returns c =
     let fields : labels_view c.in_ok-boxed.field-0.value 0 labels ≡ map (sliced_slot place bounds.lo bounds.hi (boxed_tree position)) (labels_view shape.node.value 0 labels) =
     ap (λ (n : Node). labels_view n 0 labels) node ∙ slice_fields shape.node place bounds.lo bounds.hi position 0 labels in
     sliced_shape (cut_view c.args.cut) (shape_view shape) place (bounds_view bounds) c.own.result (labels_view c.in_ok-boxed.field-0.value 0 labels) at found fewer fields
+
+pub returns-in_default : goal.returns-in_default
+returns-in_default c = grind (arith, common_steps)
+
+pub returns-in_default-bounds_at : goal.returns-in_default-bounds_at
+returns-in_default-bounds_at c = grind (arith, common_steps)
+
+pub returns-in_err-fewer : goal.returns-in_err-fewer
+returns-in_err-fewer c = grind (arith, common_steps)
+
+pub returns-in_err-boxed : goal.returns-in_err-boxed
+returns-in_err-boxed c = grind (arith, common_steps)

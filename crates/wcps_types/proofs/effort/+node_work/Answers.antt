@@ -1,6 +1,7 @@
 -- A field of a record is the only one of the part at its place.
-use Rattle.std.proofs.Common.{rules, ◌≡◌, ◌<◌, ◌≤◌, ◌∙◌, ap, length, get_or}
+use Rattle.std.proofs.Common.{rules, ◌≡◌, ◌<◌, ◌≤◌, ◌∙◌, ap, length, get_or, arith}
 use Rattle.std.specs.Prelude.{pos}
+use Rattle.std.proofs.lemmas.Grind.{common_steps}
 use Rattle.wcps_types.specs.declared.typed.Node.{Node}
 use Rattle.wcps_types.specs.Typed.{field_tree, only_tree, number}
 use Rattle.wcps_types.proofs.Fields.{record_part, record_none}
@@ -18,3 +19,6 @@ returns-in-Some t c =
     let at : c.in-Some.part.now ≡ get_or c.in-Record.parts.items c.args.field c.in-Some.part.now = search rules in
     let shown : field_tree c.args.node.now c.args.field ≡ only_tree c.in-Some.part.now = ap (λ (n : Node). field_tree n c.args.field) c.in-Record.is ∙ record_part c.in-Record.parts c.args.field c.in-Some.part.now c.in-Some.part.now inside at in
     rw shown c.node_work-in-Some.ensures
+
+pub returns-in-CondenseWhere : goal.returns-in-CondenseWhere
+returns-in-CondenseWhere t c = grind (arith, common_steps)

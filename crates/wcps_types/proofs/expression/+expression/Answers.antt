@@ -1,5 +1,6 @@
 -- Forms with lists have the shape or the first refusal of what their parts are seen as; a bracket's axes are told one at a time.
-use Rattle.std.proofs.Common.{◌≡◌, ◌+◌, drop, ap, ◌∙◌, sym, subst, map, not, is_some, IfSome, Ok, Err, false, rules}
+use Rattle.std.proofs.Common.{◌≡◌, ◌+◌, drop, ap, ◌∙◌, sym, subst, map, not, is_some, IfSome, Ok, Err, false, rules, arith}
+use Rattle.std.proofs.lemmas.Grind.{common_steps}
 use Rattle.wcps_text.specs.declared.tree.Expr.{Expr}
 use Rattle.wcps_text.specs.Tree as tree
 use Rattle.wcps_text.specs.Tree.{Tree, view, view_place, sub, parts_of, subs_of, iters_of, condition_of}
@@ -72,3 +73,36 @@ record-returns-in_err-pieces t c =
     let inv : under typ_parts c.args.context.now (pieces_view c.loop-part.pieces) (parts_of (drop c.loop-part.part-index c.args.parts.now))
     ≡ under typ_parts c.args.context.now no_pieces (parts_of c.args.parts.now) = c.loop-part.invariant in
     rw (← inv, next, fresh) (search rules)
+
+pub iterator_list-returns-then-is_taken : goal.iterator_list-returns-then-is_taken
+iterator_list-returns-then-is_taken t c = grind (arith, common_steps)
+
+pub iterator_list-returns-then-is_some : goal.iterator_list-returns-then-is_some
+iterator_list-returns-then-is_some t c = grind (arith, common_steps)
+
+pub iterator_list-returns-in_err-bounds : goal.iterator_list-returns-in_err-bounds
+iterator_list-returns-in_err-bounds t c = grind (arith, common_steps)
+
+pub iterator_list-returns-in_err-iterators : goal.iterator_list-returns-in_err-iterators
+iterator_list-returns-in_err-iterators t c = grind (arith, common_steps)
+
+pub iterator_list-loop-iter-preserved : goal.iterator_list-loop-iter-preserved
+iterator_list-loop-iter-preserved t c = grind (arith, common_steps)
+
+pub iterator_list-returns : goal.iterator_list-returns
+iterator_list-returns t c = grind (arith, common_steps)
+
+pub record-returns-in_default : goal.record-returns-in_default
+record-returns-in_default t c = grind (arith, common_steps)
+
+pub record-returns-in_err-value : goal.record-returns-in_err-value
+record-returns-in_err-value t c = grind (arith, common_steps)
+
+pub record-returns-in_err-only_field : goal.record-returns-in_err-only_field
+record-returns-in_err-only_field t c = grind (arith, common_steps)
+
+pub record-returns : goal.record-returns
+record-returns t c = grind (arith, common_steps)
+
+pub subscripts-returns : goal.subscripts-returns
+subscripts-returns t c = grind (arith, common_steps)

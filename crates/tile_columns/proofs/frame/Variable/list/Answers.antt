@@ -19,3 +19,9 @@ returns-in_ok-fill_list-in-Column c =
     let filled : length numbers.items ≡ c.args.places = grind (arith, common_steps, c.in_ok-fill_list-in-Column.ensures) in
     written_back numbers.len c.widen.new.cells _ (omega (arith, ap length same, many, filled, numbers.ok.0))
     ∙ same ∙ column_list c.args.places c.args.self.now zs (λ k. ap (number_of k) c.in-Column.is) many
+
+pub widen-requires : goal.widen-requires
+widen-requires c = grind (arith, common_steps)
+
+pub returns-in_ok-fill_list-in-Axis : goal.returns-in_ok-fill_list-in-Axis
+returns-in_ok-fill_list-in-Axis c = grind (arith, common_steps)

@@ -1,5 +1,6 @@
 -- The table has one more than the place of each number.
 use Rattle.std.proofs.Common.{◌≡◌, ◌∙◌, ◌-◌, ◌<◌, ◌+ℤ◌, ℤ, pos, List, length, get_or, sym, ap, subst, arith, rules, None, Some, SFits, w64, to_z-of_z}
+use Rattle.std.proofs.lemmas.Grind.{common_steps}
 use Rattle.tile_kernel.specs.Keyed.{IsPlaceOf}
 use Rattle.tile_kernel.proofs.Places.{other_default}
 use Rattle.tile_kernel.proofs.Keys.{none_above, none_there, some_there}
@@ -38,3 +39,6 @@ returns-else-place-eq0-clause-place c =
     let is : get_or s.table.items c.in-Some.i 0 ≡ c.index-place.result.now = other_default s.table.items c.in-Some.i 0 c.index-place.result.now lt ∙ sym c.index-place.ensures in
     subst (λ (ns : List ℤ). IsPlaceOf c.args.z ns (Some (c.index-place.result.now - 1))) c.self.view_is
     (some_there s.low c.args.z s.table.items s.numbers.items c.in-Some.i c.index-place.result.now (c.self.invariant.tabled some) lt at is c.if-place-eq0.false)
+
+pub returns-else-place-eq0-clause-within : goal.returns-else-place-eq0-clause-within
+returns-else-place-eq0-clause-within c = grind (arith, common_steps)

@@ -3,6 +3,7 @@ use Rattle.std.proofs.Common.{◌≡◌, ◌∙◌, ap, sym, arith, SFits, w64, 
 use Rattle.std.specs.Int.{w32}
 use Rattle.std.proofs.lemmas.Int.{to_z-of_z}
 use Rattle.std.proofs.lemmas.Option.{slice_get-get_or}
+use Rattle.std.proofs.lemmas.Grind.{common_steps}
 use Rattle.wcps_mean.specs.declared.cell.Outcome.TheVariants.{Value}
 use Rattle.tile_kernel.specs.Columns.{outcome_of}
 use Rattle.tile_kernel.proofs.Results.{widened}
@@ -54,3 +55,9 @@ returns-in-Mixed c =
     let fits : SFits w64 z = search rules in
     mixed_there _ _ _ _ _ _ _ None _ c.in-Mixed.is c.self.view_is c.self.invariant c.requires
     (c.outcome.ensures ∙ ap (λ z. outcome_of z (get_or c.self.inside.faults.now c.args.place None)) (to_z-of_z w64 z fits))
+
+pub offset_bounds-self-inside-place : goal.offset_bounds-self-inside-place
+offset_bounds-self-inside-place c = grind (arith, common_steps)
+
+pub bounds-self-inside-place : goal.bounds-self-inside-place
+bounds-self-inside-place c = grind (arith, common_steps)

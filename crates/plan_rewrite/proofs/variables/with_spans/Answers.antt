@@ -1,0 +1,9 @@
+use Rattle.std.proofs.Common.{arith}
+use Rattle.std.proofs.lemmas.Grind.{common_steps}
+use Rattle.plan_rewrite.proofs.variables.with_spans.Goals as goal
+
+pub loop-axis-preserved : goal.loop-axis-preserved
+loop-axis-preserved c = grind (arith, common_steps)
+
+pub returns : goal.returns
+returns c = grind (arith, common_steps)

@@ -1,0 +1,9 @@
+use Rattle.std.proofs.Common.{arith}
+use Rattle.std.proofs.lemmas.Grind.{common_steps}
+use Rattle.wcps_types.proofs.sharing.own_variables.Goals as goal
+
+pub loop-choice-preserved : goal.loop-choice-preserved
+loop-choice-preserved c = grind (arith, common_steps)
+
+pub returns : goal.returns
+returns c = grind (arith, common_steps)
