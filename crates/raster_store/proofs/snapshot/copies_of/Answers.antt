@@ -1,5 +1,6 @@
 -- One name after the other has its coverage.
-use Rattle.std.proofs.Common.{ℕ, List, sym, subst}
+use Rattle.std.proofs.Common.{ℕ, List, sym, subst, arith}
+use Rattle.std.proofs.lemmas.Grind.{common_steps}
 use Rattle.raster_store.specs.Holding.{NoneNamed}
 use Rattle.raster_store.proofs.Copied.{copied_none, copied_step}
 use Rattle.raster_store.proofs.snapshot.copies_of.Goals as goal
@@ -16,3 +17,6 @@ add_copy-requires c = record {
 
 pub loop-name-preserved : goal.loop-name-preserved
 loop-name-preserved c = copied_step _ c.args.names.now c.loop-name.name-index c.name-item.result _ _ c.loop-name-test.true c.name-item.is c.loop-name.invariant c.in_ok-add_copy.ensures
+
+pub returns : goal.returns
+returns c = grind (arith, common_steps)

@@ -1,8 +1,10 @@
 -- The index that is read is the only one of these bytes, and damaged bytes are those of no index.
-use Rattle.std.proofs.Common.{[], length, sym, ap, ◌∙◌, subst}
+use Rattle.std.proofs.Common.{[], length, sym, ap, ◌∙◌, subst, rules, arith}
 use Rattle.std.proofs.lemmas.Result.{err_from_is_err_and}
+use Rattle.std.proofs.lemmas.Grind.{common_steps}
 use Rattle.tile_index.specs.Entries.{AreOf}
 use Rattle.tile_index.proofs.Codes.{whole, only-index}
+use Rattle.tile_index.specs.Bytes.{index_bytes}
 use Rattle.tile_index.proofs.index.TileIndex.from_bytes.Goals as goal
 
 pub returns-in_err-entries-clause-damaged : goal.returns-in_err-entries-clause-damaged
@@ -28,3 +30,11 @@ pub returns-clause-only : goal.returns-clause-only
 returns-clause-only c other i e =
     let read = c.in_ok-entries.ensures in
     (only-index _ _ _ _ _ _ other c.new-bytes.ensures c.in-Some.ensures.only read.read (read.counted, read.index) i e).0 ∙ sym c.from_entries.ensures
+
+pub returns-in_default-clause-damaged : goal.returns-in_default-clause-damaged
+unfolding index_bytes
+returns-in_default-clause-damaged c = search rules
+
+pub returns-clause-read : goal.returns-clause-read
+unfolding index_bytes
+returns-clause-read c = grind (arith, common_steps)
