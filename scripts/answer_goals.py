@@ -233,9 +233,9 @@ def main(name, least="1"):
     own = [it for it in before if crate.path(it).split("::")[-1] in crate.functions]
     goals = list(crate.goals([it for it in own if before[it] >= float(least)]))
     found = crate.answers(goals)
-    goals = [it for it in goals if found[it.function]]
     for it in goals:
         it.write(found[it.function])
+    goals = [it for it in goals if found[it.function]]
     after = crate.checked_anew(*(it.function for it in goals))
     for it in goals:
         then, now, many = before[it.function], after[it.function], len(found[it.function])

@@ -1,6 +1,7 @@
 -- Each coverage is attached as the next of the catalogue, under a name that none has yet, until all are.
 use Rattle.std.proofs.Common.{◌∙◌, ◌+◌, [], ◌∷◌, ◌++◌, List, Vec, ap, sym, subst, refl, arith, Err, append_assoc}
 use Rattle.std.specs.declared.alloc.Global.{Global}
+use Rattle.std.proofs.lemmas.Grind.{common_steps}
 use Rattle.tile_index.specs.declared.index.TileIndex.{TileIndex}
 use Rattle.raster_store.specs.Views.{Index}
 use Rattle.metadata.specs.Metadata.{indexes_of}
@@ -59,3 +60,6 @@ pub returns-clause-listed : goal.returns-clause-listed
 returns-clause-listed g c =
     let all = all_attached _ _ _ _ _ _ _ _ c.loop-fields.invariant.0 c.requires.counted (ap indexes_of c.loop-fields.invariant.2) (none_left _ (omega (arith, c.in-None.ensures.steps.0, c.loop-fields.fields-iterator.rest.ok))) in
     record { coverages = all.0; indexes = all.1; tiles = all.2 }
+
+pub overflow_add-place : goal.overflow_add-place
+overflow_add-place g c = grind (arith, common_steps)

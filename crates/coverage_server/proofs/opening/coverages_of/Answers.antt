@@ -1,5 +1,6 @@
 -- What comes of an honest disk is what it lists, and can be closed; what is refused as damaged is not laid out.
-use Rattle.std.proofs.Common.{◌≡◌, ◌<◌, ◌∙◌, ap, sym, subst, List, ℕ}
+use Rattle.std.proofs.Common.{◌≡◌, ◌<◌, ◌∙◌, ap, sym, subst, List, ℕ, arith}
+use Rattle.std.proofs.lemmas.Grind.{common_steps}
 use Rattle.block_file.specs.Uses.{uses_of}
 use Rattle.block_file.specs.View.{BlockFileView, state_of}
 use Rattle.raster_store.specs.Views.{Index, listed_all, coverages_in}
@@ -39,3 +40,6 @@ returns-clause-refused g c =
     departs_map _ _ c.in-Err-attach_all.fault
     (λ beyond_domains honest. beyond _ _ _ _ _ _ (c.requires.version honest) (c.requires.opened honest) (rw c.deref.ensures.value at c.in-Ok.ensures.claims.listed) beyond_domains)
     c.in-Err-attach_all.ensures.refused
+
+pub attach_all-requires-clause-counted : goal.attach_all-requires-clause-counted
+attach_all-requires-clause-counted g c = grind (arith, common_steps)

@@ -1,6 +1,7 @@
 -- Of an item of one field the column is that of its body, and costs no more than the body.
 use Rattle.std.proofs.Common.{◌≤◌, ◌+◌, sym, subst, arith, length}
 use Rattle.std.specs.Prelude.{option_copied, sum_by}
+use Rattle.std.proofs.lemmas.Grind.{common_steps}
 use Rattle.arr_core.specs.Domains.{IsBoxOf, count}
 use Rattle.plan_ir.specs.Bodies.{body_view, fold_view}
 use Rattle.plan_ir.specs.Placed.{spans}
@@ -50,3 +51,6 @@ returns-in-Some-clause-fetched g c =
     on_ok c.keyed_columns.result (now.fetched ≤ s.fetched + (bound_times (count at.area.now + 12288) (body_view k.body.now) + bound_times 2 (fold_view k.fold.now)))
     (now.fetched ≤ s.fetched + sum_by (bound_of (chosen s c.args.ground.now) at.part.now) (bodies_of (item (item_view c.args.item.now))))
     (λ f. omega (arith, f, cost)) c.keyed_columns.ensures.fetched
+
+pub returns-in-Some-clause-known : goal.returns-in-Some-clause-known
+returns-in-Some-clause-known g c = grind (arith, common_steps)

@@ -1,6 +1,7 @@
 -- One more field.
 use Rattle.std.proofs.Common.{◌≡◌, ◌∙◌, ◌<◌, ◌+◌, ◌++◌, ap, sym, subst, arith, refl, length, get_or, take}
 use Rattle.std.specs.List.{enumerate_from}
+use Rattle.std.proofs.lemmas.Grind.{common_steps}
 use Rattle.tile_kernel.specs.Columns.{outcome_at}
 use Rattle.tile_kernel.specs.Told.{IsFirst}
 use Rattle.tile_kernel.proofs.Places.{outcome_there}
@@ -21,3 +22,6 @@ loop-j-preserved c =
     subst (IsFirst c.first_after.result.fault c.first_after.result.place)
     (row_next c.args.place columns k j x told (c.args.place + j) o lt refl there)
     (c.first_after.ensures (told ++ enumerate_from c.args.place (row_at (take j columns) k)) (c.loop-j.invariant told h))
+
+pub returns : goal.returns
+returns c = grind (arith, common_steps)
