@@ -39,14 +39,6 @@ TACTIC = re.compile(r"tactic\(auto((?:, (?:using|unfolding)\([^)]*\))*)\)\]")
 NAMING = re.compile(r"#\[" + TACTIC.pattern + FUNCTION)
 
 
-def text_of(path):
-    """The text of a file, or none where there is no such file."""
-    if not os.path.isfile(path):
-        return ""
-    with open(path, encoding="utf-8") as file:
-        return file.read()
-
-
 def write(path, text):
     """Makes a file have this text; without text there is no file."""
     if text:
@@ -85,7 +77,7 @@ class Goals:
     def __init__(self, crate, function, offered, named):
         self.function, self.offered, self.named = function, offered, named
         self.crate, self.path = crate, f"proofs/{function.replace('.', '/')}/Answers.antt"
-        self.was = text_of(self.path)
+        self.was = rt.rtlib.text_of(self.path) or ""
 
     def imported(self, path):
         """The module and the name of `crate::proofs::Runs::lemma`."""
@@ -135,7 +127,7 @@ class Crate:
     def __init__(self, crate):
         self.crate, self.name, self.sources = crate, crate.name, {}
         for at, _, names in os.walk("src"):
-            self.sources.update((f"{at}/{it}", text_of(f"{at}/{it}")) for it in names if it.endswith(".rt"))
+            self.sources.update((f"{at}/{it}", rt.rtlib.text_of(f"{at}/{it}")) for it in names if it.endswith(".rt"))
         text = "\n".join(self.sources.values())
         # a cycle of calls is named by any of its functions
         self.members, self.functions = dict(CYCLE.findall(text)), {*re.findall(r"\bfn (\w+)", text)}
