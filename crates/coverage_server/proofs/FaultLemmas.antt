@@ -15,10 +15,6 @@ never_fewer F old new t = elim (cases_lt new old) [
 pub tells_as : (F G : Type 0) (old new : ℕ) → (F → G) → (G → F) → Tells F old new → Tells G old new
 tells_as F G old new to from t = record { told = λ g. t.told (from g); quiet = λ none. t.quiet (λ f. none (to f)) }
 
--- where no fault is told
-pub tells_none : (F G : Type 0) (old new : ℕ) → (F → ⊥) → (G → ⊥) → Tells F old new → Tells G old new
-tells_none F G old new none other t = tells_as F G old new (λ f. absurd (none f)) (λ g. absurd (other g)) t
-
 -- one answer after another that told none
 pub tells_after : (F G : Type 0) (old mid new : ℕ) → (F → ⊥) → Tells F old mid → Tells G mid new → Tells G old new
 tells_after F G old mid new none first t = rw (← first.quiet none) t
@@ -53,7 +49,3 @@ any_err (Err e) P p = p
 pub ok_weaker : {X E : Type 0} (r : Result X E) (P Q : X → Type 0) → ((x : X) → P x → Q x) → IfOk r P → IfOk r Q
 ok_weaker (Ok x) P Q f p = f x p
 ok_weaker (Err e) P Q f p = tt
-
-pub err_weaker : {X E : Type 0} (r : Result X E) (P Q : E → Type 0) → ((e : E) → P e → Q e) → IfErr r P → IfErr r Q
-err_weaker (Ok x) P Q f p = tt
-err_weaker (Err e) P Q f p = f e p

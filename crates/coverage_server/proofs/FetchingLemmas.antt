@@ -15,13 +15,11 @@ use Rattle.http_front.specs.declared.reply.Reply.{Reply}
 use Rattle.http_front.specs.declared.reply.Reply.TheVariants.{Text, Csv, Refused}
 use Rattle.kvp_front.specs.declared.request.RequestError.{RequestError}
 use Rattle.kvp_front.specs.Requests.{Asks, insert_coverage, update_coverage, delete_coverage, list_coverages, describe_coverage, process_coverages, submit_query, step_job, fetch_job, cancel_job, expand_template, process_template}
-use Rattle.kvp_front.specs.Templates.{Template}
 use Rattle.coverage_server.specs.declared.error.AnswerError.{AnswerError}
-use Rattle.coverage_server.specs.Fetching.{FetchesBounded, FetchesNone, FetchesRead, FetchesTemplate, FetchesText, FetchesUnits, IsFailure, UnlessFailed, UnlessFails, most_of_plan}
+use Rattle.coverage_server.specs.Fetching.{FetchesBounded, FetchesNone, FetchesRead, FetchesUnits, IsFailure, UnlessFailed, UnlessFails, most_of_plan}
 use Rattle.coverage_server.specs.Holding.{ReleasesFor}
 use Rattle.coverage_server.specs.Leaving.{refusal_number, reply_of}
 use Rattle.coverage_server.specs.Stages.{cell_refusal, step_refusal}
-use Rattle.coverage_server.specs.Templates.{expansion}
 use Rattle.coverage_server.specs.Tiles.{asked_state}
 use Rattle.coverage_server.specs.Views.{ServerView, SessionView, session}
 
@@ -60,11 +58,6 @@ plan_bounded was is before after begun x =
     let all : sum_by (bound plan) (boxes_left was) ≡ most_of_plan plan = ap (sum_by (bound plan)) begun in
     let part = sum_by-take-le (bound plan) (boxes_left was) (left_of was - left_of is) in
     omega (arith, done, all, part)
-
-pub of_template : (template : Template) (text : List ℕ) (v w : ServerView) → expansion template v.store ≡ Ok text
-    → FetchesNone v w ⊎ FetchesText text v w → FetchesNone v w ⊎ FetchesTemplate template v w
-of_template template text v w is (inl x) = inl x
-of_template template text v w is (inr x) = inr (text, is, x)
 
 -- ---- units of a job
 

@@ -1,5 +1,5 @@
 -- The steps of the machine, one refusal after another.
-use Rattle.std.proofs.Common.{◌≡◌, ℕ, ◌<◌, ◌≤◌, Bool, true, false, List, [], ◌∷◌, ◌++◌, length, map, Option, None, Some, get_or, refl, sym, ap, ◌∙◌, subst, arith, inl, inr}
+use Rattle.std.proofs.Common.{◌≡◌, ℕ, ◌<◌, ◌≤◌, List, [], ◌∷◌, ◌++◌, length, map, Option, None, Some, get_or, refl, sym, ap, ◌∙◌, subst, arith, inl, inr}
 use Rattle.std.specs.Prelude.{◌⊎◌, IsSomeAnd, MatchOption, String, string_bytes, codes, slice_get}
 use Rattle.std.specs.declared.alloc.Global.{Global}
 use Rattle.std.specs.List.{flat_map}
@@ -122,10 +122,6 @@ field_there field fields k e = there (slice_get_cases fields k).1
         → (f : Field) × (slice_get fields k ≡ Some f)
     there (inl x) = (x.0, x.2)
     there (inr x) = let past : length fields ≤ k = x.0 in absurd (omega (arith, within))
-
--- what a test says
-pub no_if_false : (r : Bool) (P : Type 0) → (r ≡ true → P) × (P → r ≡ true) → r ≡ false → ¬ P
-no_if_false r P d e p = let yes : r ≡ true = d.1 p in absurd cc
 
 -- the place of a field, as it was looked up in what is told of the coverage
 pub at_field : (field shown : List ℕ) (c : Coverage) (s : Signature) (k : ℕ) → shown ≡ field → s ≡ signature_of c → Some k ≡ field_place shown s.fields

@@ -1,23 +1,16 @@
 -- The metadata of a closed file is short, since it lists each block of a tile once.
-use Rattle.std.proofs.Common.{◌≡◌, ℕ, ◌+◌, ◌<◌, ◌≤◌, List, [], ◌∷◌, length, arith, sym, ◌∙◌, ap, inl, inr}
+use Rattle.std.proofs.Common.{◌≡◌, ℕ, ◌<◌, ◌≤◌, List, [], ◌∷◌, length, arith, sym, ◌∙◌, ap, inl, inr}
 use Rattle.std.proofs.lemmas.Bool.{cases_lt}
 use Rattle.std.proofs.lemmas.List.Concat.{flat_map-cons}
-use Rattle.std.proofs.lemmas.List.Sums.{sum_by-cons}
 use Rattle.arr_core.specs.declared.signature.Signature.{Signature}
 use Rattle.block_file.specs.State.{times}
 use Rattle.block_file.proofs.Free.{free_le, free_listed}
 use Rattle.block_file.proofs.Times.{times_none, times_append}
-use Rattle.tile_index.specs.declared.entry.Entry.{Entry}
 use Rattle.metadata.proofs.Bounds.{index_blocks, fields_blocks, all_blocks, metadata_short}
-use Rattle.tile_store.specs.Listing.{listed}
 use Rattle.raster_store.specs.Views.{Index, listed_fields, listed_all}
 use Rattle.raster_store.proofs.Totals.{listed_fields-cons, listed_all-nil, listed_all-cons}
 use Rattle.raster_store.proofs.Snapshots.{times_listed}
 use Rattle.coverage_server.specs.Disk.{IsLaidOut}
-
-listed-cons : (x : ℕ × Entry) (index : Index) (k : ℕ) → listed (x ∷ index) k ≡ times x.1.blocks k + listed index k
-unfolding listed
-listed-cons x index k = sum_by-cons (λ (y : ℕ × Entry). times y.1.blocks k) x index
 
 -- the blocks of fields, and of all coverages, are those that they list
 times_fields : (fields : List Index) (k : ℕ) → times (fields_blocks fields) k ≡ listed_fields fields k

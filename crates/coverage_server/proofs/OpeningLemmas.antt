@@ -355,22 +355,6 @@ room_there content metadata marks marks' ks o claims = elim (some_bytes content)
       (chain.above_zero i below, omega (arith, inside, few), marked_unused marks' k still)) chain.distinct
 ]
 
--- Why an opened file is refused.
-pub late_refused : (content metadata marks : List ℕ) (fault : OpenFault) → IsOpened content metadata marks → Departs ((0 < length content) × IsNotLaidOut content) fault → IsNoStore content fault
-late_refused content metadata marks opening.NoMemory o d = tt
-late_refused content metadata marks opening.DiskFault o d = tt
-late_refused content metadata marks opening.Damaged o d =
-    let closed = o.closed d.0 in (
-      closed.header.store,
-      λ left. let state : number_at 12 4 content ≡ 2 = closed.header.state in omega (arith, left, state),
-      λ store indexes lists. elim lists [
-        | inl none ↦ no_byte content none.0 d.0
-        | inr more ↦ d.1 more.metadata more.signatures indexes more.laid_out
-      ],
-    )
-late_refused content metadata marks opening.NotAStore o d = absurd d
-late_refused content metadata marks opening.NotClosed o d = absurd d
-
 -- a disk that holds a store is refused for want of memory or for a fault alone
 pub want_of : (content : List ℕ) (fault : OpenFault) (store : Store) → IsNoStore content fault → HoldsStore content store → IsWant fault
 want_of content opening.NoMemory store n held = tt

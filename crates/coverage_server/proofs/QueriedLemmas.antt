@@ -79,19 +79,6 @@ typed_alike all some q list is h =
 
 -- ---- one name after the other
 
--- no signature has the name, or the first that has it is found
-pub not_named : (text : List ℕ) (list : List Signature) → list_any (λ (s : Signature). bytes_eq s.name text) list ≡ false → listed text list ≡ None
-not_named text [] e = refl
-not_named text (s ∷ list) e = by_test (not_named text list) (bytes_eq s.name text) refl
-  where
-    or_rest : Bool → Bool
-    or_rest c = c || list_any (λ (t : Signature). bytes_eq t.name text) list
-
-    by_test : (list_any (λ (t : Signature). bytes_eq t.name text) list ≡ false → listed text list ≡ None)
-        → (b : Bool) → bytes_eq s.name text ≡ b → listed text (s ∷ list) ≡ None
-    by_test rest true t = absurd (true≢false (sym (ap or_rest t) ∙ e))
-    by_test rest false t = rw t (rest (sym (ap or_rest t) ∙ e))
-
 pub is_listed : (text : List ℕ) (list : List Signature) → list_any (λ (s : Signature). bytes_eq s.name text) list ≡ true → listed text list ≡ None → ⊥
 is_listed text [] e none = true≢false (sym e)
 is_listed text (s ∷ list) e none = by_test (is_listed text list) (bytes_eq s.name text) refl

@@ -116,11 +116,6 @@ found_at store places n field tile place h is =
     read_get (y ∷ xs) zero x d e = cc
     read_get (y ∷ xs) (suc i) x d e = read_get xs i x d e
 
-pub within_places : (store : Store) (places : List ℕ) (n field tile : ℕ) → AskedTile (slice_get (signatures_at store places) n) field tile → n < length places
-within_places store [] n field tile h = absurd h
-within_places store (q ∷ places) zero field tile h = omega arith
-within_places store (q ∷ places) (suc n) field tile h = omega (arith, within_places store places n field tile h)
-
 -- it has that tile
 pub has_tile : (store : Store) (places : List ℕ) (n field tile place : ℕ) → Found store places n field tile place
     → HasTile (record { coverage = place; field = field; tile = tile }) store

@@ -15,7 +15,7 @@ use Rattle.wcps_mean.specs.Answer.{answer}
 use Rattle.wcps_mean.specs.Faults.{refusal_of as fault_refusal}
 use Rattle.wcps_mean.specs.Reports.{Tells}
 use Rattle.wcps_types.specs.Typed.{TypedTree}
-use Rattle.coverage_server.specs.Asking.{QueryAnswer, cells_of, items_answer, evaluated}
+use Rattle.coverage_server.specs.Asking.{cells_of, items_answer, evaluated}
 use Rattle.coverage_server.specs.Stages.{GivesValues, FailsReading, cell_refusal}
 use Rattle.coverage_server.specs.Fetching.{IsPlanOf}
 use Rattle.coverage_server.specs.Tiles.{AreRead, ReadsSpelled, store_for}
@@ -23,12 +23,6 @@ use Rattle.coverage_server.specs.Views.{ServerView, still_of}
 use Rattle.raster_store.specs.Snapshots.{held_for}
 use Rattle.coverage_server.proofs.TileLemmas.{reads_store, store_spelled}
 use Rattle.coverage_server.proofs.JobLemmas.{answer_text, answer_fault}
-
--- cells that are not known say nothing of the answer
-pub no_values : (a : QueryAnswer) (e : CellError) → GivesValues a (Err (cell_refusal e))
-no_values a cell.NoMemory = tt
-no_values a cell.DiskFault = tt
-no_values a cell.Damaged = tt
 
 -- a query reads the store as it is, for which nothing is held
 pub fails_reading : (v w : ServerView) (asked : List Signature) (places : List ℕ) → held_for 0 v.held ≡ None → AreRead v.store asked places → (e : CellError)

@@ -1,6 +1,6 @@
 -- What a write answers.
 use Rattle.std.proofs.Common.{◌≡◌, ℕ, zero, suc, ◌+◌, ◌*◌, ◌<◌, List, [], ◌∷◌, ◌++◌, length, Option, None, Some, Result, Ok, Err, OnOk, OnErr, refl, sym, ap, ◌∙◌, subst, arith, inl, inr, Contains, is_some, false}
-use Rattle.std.specs.Prelude.{All, IsErrOf, IsSomeAnd, replicate, slice_get, option_copied, option_map}
+use Rattle.std.specs.Prelude.{All, IsSomeAnd, replicate, slice_get, option_copied, option_map}
 use Rattle.std.specs.Borrow.{Bor}
 use Rattle.std.proofs.lemmas.List.{length-replicate}
 use Rattle.std.proofs.lemmas.Option.{slice_get_cases}
@@ -12,7 +12,6 @@ use Rattle.arr_core.specs.declared.signature.Signature.{Signature}
 use Rattle.arr_core.specs.Cells.{Holds}
 use Rattle.arr_core.specs.Domains.{count, gap, IsBoxOf}
 use Rattle.arr_core.specs.Stores.{Coverage, Store, found}
-use Rattle.disk_face.specs.Disk.{Tells}
 use Rattle.block_file.specs.View.{BlockFileView, state_of}
 use Rattle.catalogue.specs.Bytes.{catalogue_bytes}
 use Rattle.catalogue.specs.declared.error.NoSuchCoverage.{NoSuchCoverage}
@@ -29,9 +28,7 @@ use Rattle.coverage_server.specs.Layouts.{layout_of}
 use Rattle.coverage_server.specs.Room.{LacksRoomToWrite, numbers_of}
 use Rattle.coverage_server.specs.Views.{signatures_of}
 use Rattle.coverage_server.specs.Writing.{write_refusal, FindsCoverage, MayWrite, WritesCells, WriteRefused}
-use Rattle.coverage_server.specs.declared.error.AnswerError.{AnswerError}
 use Rattle.coverage_server.specs.declared.error.AnswerError.TheVariants.{DiskFault}
-use Rattle.coverage_server.proofs.FaultLemmas.{tells_as, tells_none}
 use Rattle.coverage_server.proofs.FreeLemmas.{IsReady, shown, ready_free}
 use Rattle.coverage_server.proofs.RoomLemmas.{listed_as, room_alike}
 use Rattle.coverage_server.proofs.StoreLemmas.{listed_alike, listed_last, without_last}
@@ -186,14 +183,3 @@ put_done name field area list size old new x held = record {
   written = x.1.coverages;
   lays = λ sure. let t = x.1.tiles sure in record { takes = t.takes; others = t.others; held = held.values sure };
 }
-
--- what a refused write tells of the disk
-pub write_told : (T U : Type 0) (fault : WriteFault) (told : AnswerError) (old new : ℕ) → told ≡ write_refusal fault
-    → Tells (IsErrOf {T = T} (Err fault) (writing.Device device.DiskFault)) old new → Tells (IsErrOf {T = U} (Err told) DiskFault) old new
-write_told T U writing.OutsideDomain told old new is t = tells_none _ _ old new (λ e. absurd cc) (λ e. absurd cc) t
-write_told T U writing.ValueCount told old new is t = tells_none _ _ old new (λ e. absurd cc) (λ e. absurd cc) t
-write_told T U writing.ValueRange told old new is t = tells_none _ _ old new (λ e. absurd cc) (λ e. absurd cc) t
-write_told T U (writing.Device device.NoMemory) told old new is t = tells_none _ _ old new (λ e. absurd cc) (λ e. absurd cc) t
-write_told T U (writing.Device device.DiskFault) told old new is t = tells_as _ _ old new (λ e. ap Err is) (λ e. refl) t
-write_told T U (writing.Device device.NoRoom) told old new is t = tells_none _ _ old new (λ e. absurd cc) (λ e. absurd cc) t
-write_told T U (writing.Device device.Damaged) told old new is t = tells_none _ _ old new (λ e. absurd cc) (λ e. absurd cc) t

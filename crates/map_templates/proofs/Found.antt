@@ -39,9 +39,6 @@ given a = Ok a
 pub same_answer : {A : Type 0} {a b : A} → given a ≡ given b → a ≡ b
 same_answer e = cc
 
-pub same_some : {A : Type 0} {a b : A} → Some a ≡ Some b → a ≡ b
-same_some e = cc
-
 -- a check that gave something came after one that did
 pub record After {A B : Type 0} (r : Answer A) (go : A → Answer B) (b : B) : Type 0 where
   pub value : A

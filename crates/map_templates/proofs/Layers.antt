@@ -12,14 +12,13 @@ use Rattle.wcps_text.specs.Tree as tree
 use Rattle.wcps_text.specs.Tree.{Tree, QueryTree}
 use Rattle.wcps_types.specs.declared.bound.Bound.{Bound}
 use Rattle.wcps_types.specs.declared.refusal.TypeRefusal.{TypeRefusal}
-use Rattle.wcps_types.specs.declared.refusal.TypeRefusal.TheVariants.{DomainMismatch, ResultTooLarge, TooMuchWork}
-use Rattle.wcps_text.specs.declared.operator.BinaryOperator.{BinaryOperator}
-use Rattle.wcps_types.specs.Typed.{Typed, cell, select, binary, TypedTree, CombinationTree}
+use Rattle.wcps_types.specs.declared.refusal.TypeRefusal.TheVariants.{ResultTooLarge, TooMuchWork}
+use Rattle.wcps_types.specs.Typed.{Typed, cell, select, TypedTree, CombinationTree}
 use Rattle.wcps_types.specs.Shapes.{ShapeTree, Answer, then_of, unnamed, is_scalar}
 use Rattle.arr_core.specs.Cells.{is_bool}
 use Rattle.arr_core.specs.Fields.{field_place}
 use Rattle.wcps_types.specs.Variables.{cells_from, variable}
-use Rattle.wcps_types.specs.Operators.{selected, numeric, are_same}
+use Rattle.wcps_types.specs.Operators.{selected}
 use Rattle.wcps_types.specs.Typing.{typ}
 use Rattle.wcps_types.specs.Names.{coverage_place}
 use Rattle.wcps_types.specs.Bindings.{ChoiceTree, no_bindings, signature_at, bound_from, few_combinations, combinations}
@@ -103,14 +102,6 @@ layer_reads cells cs layer s c f (Some x) at named env p = ap (λ (x : Option Si
 abbrev pub HasAxes : List Axis → Type 0
 HasAxes axes = is_scalar axes ≡ false
 
-pub numeric_same : (op : BinaryOperator) (b : Bool) (axes : List Axis) (m n : Option (List ℕ)) (p q : Bool) (l r : Typed) → HasAxes axes → are_same axes axes ≡ true
-    → numeric op b (one axes m p l) (one axes n q r) ≡ Ok (unnamed axes b (binary op l r))
-numeric_same op b axes m n p q l r some same = rw (some, same) refl
-
-pub numeric_unlike : (op : BinaryOperator) (b : Bool) (axes others : List Axis) (m n : Option (List ℕ)) (p q : Bool) (l r : Typed) → HasAxes axes → HasAxes others → are_same axes others ≡ false
-    → numeric op b (one axes m p l) (one others n q r) ≡ Err DomainMismatch
-numeric_unlike op b axes others m n p q l r some more unlike = rw (some, more, unlike) refl
-
 -- ---- the coverages of a query
 
 abbrev pub one_choice : List ℕ → ℕ → ChoiceTree
@@ -145,9 +136,6 @@ bound_both signatures v w n m s t free named h k = by_name (bytes_eq s.name m) r
     by_name false e = record { coverages = s ∷ t ∷ []; place = 1; is = rw (h, free, e, k) refl; first = refl; second = refl }
 
 -- ---- whole queries
-
-abbrev only_one : List Signature → List Axis → Typed → TypedTree
-only_one cs axes t = single cs axes t
 
 limits_kept : (cs : List Signature) (all : List CombinationTree) (t : TypedTree) → within_limits cs all ≡ Ok t → t ≡ record { coverages = cs; combinations = all }
 limits_kept cs all t e = by_cells _ _ e

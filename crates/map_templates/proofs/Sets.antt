@@ -1,6 +1,5 @@
 -- Lists: what holds of each member, and filters.
 use Rattle.std.proofs.Common.{◌≡◌, List, [], ◌∷◌, ◌++◌, map, Bool, true, false, cond, filter, refl, ap}
-use Rattle.std.specs.List.{list_all}
 
 abbrev pub Every : {X : Type 0} → (X → Type 0) → List X → Type 0
 Every P [] = Unit {0}
@@ -21,18 +20,6 @@ every-of P Q (x ∷ xs) f h = (f x h.0, every-of P Q xs f h.1)
 pub every-all : {X : Type 0} (P : X → Type 0) (xs : List X) → ((x : X) → P x) → Every P xs
 every-all P [] f = tt
 every-all P (x ∷ xs) f = (f x, every-all P xs f)
-
-pub every-filter : {X : Type 0} (P : X → Type 0) (p : X → Bool) (xs : List X) → Every P xs → Every P (filter p xs)
-every-filter P p [] h = tt
-every-filter P p (x ∷ xs) h = pick (p x) h.0 (every-filter P p xs h.1)
-  where
-    pick : (b : Bool) → P x → Every P (filter p xs) → Every P (cond b (x ∷ filter p xs) (filter p xs))
-    pick true here more = (here, more)
-    pick false here more = more
-
-pub map-agree : {X Y : Type 0} (f g : X → Y) (xs : List X) → Every (λ x. f x ≡ g x) xs → map f xs ≡ map g xs
-map-agree f g [] h = refl
-map-agree f g (x ∷ xs) h = rw (h.0, map-agree f g xs h.1) refl
 
 pub map-map : {X Y Z : Type 0} (f : Y → Z) (g : X → Y) (xs : List X) → map f (map g xs) ≡ map (λ x. f (g x)) xs
 map-map f g [] = refl
@@ -73,11 +60,6 @@ filter-append' {X} p (x ∷ xs) ys = pick (p x) (filter-append' p xs ys)
     pick : (b : Bool) → filter p (xs ++ ys) ≡ filter p xs ++ filter p ys → cond b (x ∷ filter p (xs ++ ys)) (filter p (xs ++ ys)) ≡ cond b (x ∷ filter p xs) (filter p xs) ++ filter p ys
     pick true more = ap (λ (zs : List X). x ∷ zs) more
     pick false more = more
-
--- a test that all pass
-pub all-pass : {X : Type 0} (p : X → Bool) (xs : List X) → Every (λ x. p x ≡ true) xs → list_all p xs ≡ true
-all-pass p [] h = refl
-all-pass p (x ∷ xs) h = rw (h.0, all-pass p xs h.1) refl
 
 pub cons-nil : {X : Type 0} (x : X) (xs : List X) → x ∷ xs ≡ [] → ⊥
 cons-nil x xs e = cc

@@ -227,9 +227,6 @@ truth_of-number : (b : Bool) → truth_of (cells.number b) ≡ b
 truth_of-number true = refl
 truth_of-number false = refl
 
-and-truth : (a b : Bool) → operate2 binaries.And (truth a) (truth b) ≡ truth (a && b)
-and-truth a b = rw (truth_of-number a, truth_of-number b) refl
-
 four : (a b c d : Bool) → ((a && b) && c) && d ≡ (a && b) && ((c && d) && true)
 four true true true true = refl
 four true true true false = refl

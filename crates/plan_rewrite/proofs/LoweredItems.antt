@@ -1,5 +1,5 @@
 -- A lowered item gives what the item gives.
-use Rattle.std.proofs.Common.{◌≡◌, ℕ, zero, suc, ◌<◌, List, [], ◌∷◌, ◌++◌, length, map, get_or, drop, refl, sym, ap, ◌∙◌, arith, ℤ, Bool, true, false, cond, Result, Ok, Err}
+use Rattle.std.proofs.Common.{◌≡◌, ℕ, suc, List, [], ◌∷◌, ◌++◌, length, map, refl, sym, ap, ◌∙◌, ℤ, Bool, true, false, cond, Result, Ok, Err}
 use Rattle.std.specs.Prelude.{int_le, ◌&&◌}
 use Rattle.std.proofs.lemmas.List.{length-map}
 use Rattle.std.proofs.lemmas.Simd.{map-map}
@@ -147,10 +147,3 @@ item-lowered i s regs =
     (λ p l. point-lowered i s regs p (lie-length (spans i.domain) p l ∙ length-map i.domain span)) (points-lie i.domain)))
     ∙ ap (λ n. then_of (joined (map (answer_cells s (item_view i).fields) (points i.domain))) (λ cells. Ok (record { line = line_of i.domain; fields = field_count n; cells = cells })))
     (fields-length (chain_of i.node.value) (outermost [] i.domain) i.booleans.items ∙ sym (views-length i.node.value 0 i.booleans.items))
-
--- the first of the fields that are left
-pub next-field : (c : Setting) (e : Node) (n : ℕ) (bs : List Bool) (j : ℕ) (d : Bool) → j < length bs
-    → map (lowered_field c) (fields_view e n (drop j bs)) ≡ lowered_field c (record { boolean = get_or bs j d; tree = field_tree e n }) ∷ map (lowered_field c) (fields_view e (suc n) (drop (suc j) bs))
-next-field c e n [] j d lt = absurd (omega arith)
-next-field c e n (b ∷ bs) zero d lt = refl
-next-field c e n (b ∷ bs) (suc j) d lt = next-field c e n bs j d (omega (arith, lt))

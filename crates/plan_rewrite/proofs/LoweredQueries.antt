@@ -60,11 +60,6 @@ lowered-next (c ∷ trees) [] t h is = (is, tt)
 lowered-next [] (u ∷ steps) t h is = absurd h
 lowered-next (c ∷ trees) (u ∷ steps) t h is = (h.0, lowered-next trees steps t h.1 is)
 
-pub lowered-inside : (trees : List CombinationTree) (k : ℕ) (t : StepsTree) → IsLowered (slice_get trees k) (Some t) → k < length trees
-lowered-inside [] k t h = absurd h
-lowered-inside (c ∷ trees) zero t h = omega arith
-lowered-inside (c ∷ trees) (suc k) t h = omega (arith, lowered-inside trees k t h)
-
 pub lowered-all : (trees : List CombinationTree) (steps : List StepsTree) → AreLowered (take (length steps) trees) steps → IsLowered (slice_get trees (length steps)) None → AreLowered trees steps
 lowered-all [] [] h is = tt
 lowered-all (c ∷ trees) [] h is = absurd is

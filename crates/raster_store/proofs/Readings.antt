@@ -321,23 +321,3 @@ spelled_placed s held name place field tile is named has spelled = elim (slice_g
       ]
   | inr past ↦ absurd (omega (arith, named_within name held place named, past.0))
 ]
-
--- in an intact store each tile is spelled
-fields_spelled : (content : List ℕ) (domain : List Axis) (fields : List Field) (indexes : List Index) (j tile : ℕ) → j < length fields → length indexes ≡ length fields → FieldsIntact content domain fields indexes
-    → IsSomeAnd (slice_get fields j) (λ (f : Field). IsTileSpelled f.kind domain (get_or indexes j []) content tile)
-unfolding IsSpelled
-fields_spelled content domain [] indexes j tile h n s = absurd (omega arith)
-fields_spelled content domain (f ∷ fields) [] j tile h n s = absurd (omega arith)
-fields_spelled content domain (f ∷ fields) (i ∷ indexes) zero tile h n s = s.0 tile
-fields_spelled content domain (f ∷ fields) (i ∷ indexes) (suc j) tile h n s = fields_spelled content domain fields indexes j tile (omega (arith, h)) (omega (arith, n)) s.1
-
-pub intact_spelled : (s : BlocksState) (held : List Held) (at : TileAt) → IsHeld s held → HasTile at (coverages_of s.content held)
-    → AreIntact s.content (coverages_of s.content held) (indexes_of held) → IsSpelledAt at s.content (coverages_of s.content held) (indexes_of held)
-intact_spelled s held at is has all = elim (slice_get_cases held at.coverage).1 [
-  | inl there ↦
-      let h = there.0 in
-      let facts = known s held at.coverage h is there.1 (sym there.3) in
-      let field = rw facts.at at has in
-      rw (facts.at, indexes_at held at.coverage h there.1 (sym there.3)) (fields_spelled s.content h.signature.domain h.signature.fields h.fields.items at.field at.tile field.0 facts.whole.0 (facts.intact all))
-  | inr past ↦ absurd (rw (slice_get-map (coverage_of s.content) held at.coverage, past.1) at has)
-]

@@ -3,7 +3,7 @@ use Rattle.std.proofs.Common.{◌≡◌, ℕ, zero, suc, ◌+◌, ◌<◌, ◌�
 use Rattle.std.specs.Prelude.{ℤ, slice_get, IsSomeAnd, option_map}
 use Rattle.std.specs.List.{remove, position_or_len}
 use Rattle.std.proofs.lemmas.Bool.{cases_lt, lt-ltb}
-use Rattle.std.proofs.lemmas.List.{length-map, get_or_default}
+use Rattle.std.proofs.lemmas.List.{length-map}
 use Rattle.std.proofs.lemmas.List.Elements.{All-head, All-tail, All-cons, All-push, All-append, All-take, All-drop, recursion_from_All}
 use Rattle.std.proofs.lemmas.List.Quantifiers.{position-Some}
 use Rattle.std.proofs.lemmas.List.Sums.{sum_by-cons, sum_by_push, sum_by_more, sum_by-remove, sum_by-take-le, fails_before_first}
@@ -137,10 +137,6 @@ passed own own' s s' xs p are = record {
 
 pub seen : (own own' : ℕ → ℕ) (s s' : BlocksState) (xs : List Snapshot) → Passes own own' s s' → AreSnapshots own s xs → Stay s s' xs
 seen own own' s s' xs p are = stay own own' s s' xs p are.each are.counted
-
--- the store's own uses may be others, as long as all are counted
-pub owned : (own own' : ℕ → ℕ) (s : BlocksState) (xs : List Snapshot) → AreSnapshots own s xs → ((k : ℕ) → own' k + listed_held xs k ≤ s.uses k) → AreSnapshots own' s xs
-owned own own' s xs are covers = record { each = are.each; counted = covers }
 
 pub no_snapshots : (own : ℕ → ℕ) (s : BlocksState) → Covers s own → AreSnapshots own s []
 no_snapshots own s covers = record { each = λ k d l. absurd (omega arith); counted = λ k. omega (arith, covers k, listed_held-nil k) }
@@ -279,17 +275,10 @@ the_held job [] place is = absurd is
 the_held job (x ∷ xs) zero is = (x, refl)
 the_held job (x ∷ xs) (suc place) is = the_held job xs place is.1
 
-pub the_one : (xs : List Snapshot) (place : ℕ) (x y : Snapshot) → place < length xs → x ≡ get_or xs place x → y ≡ get_or xs place y → x ≡ y
-the_one xs place x y within is same = is ∙ get_or_default xs place x y within ∙ sym same
-
 pub held_some : (content : List ℕ) (job : ℕ) (xs : List Snapshot) (place : ℕ) → IsHeldAt job xs place → held_for job (snapshots_of content xs) ≡ None → ⊥
 held_some content job [] place is none = absurd is
 held_some content job (x ∷ xs) zero is none = let some : Some (snapshot_of content x) ≡ None = rw is at none in cc
 held_some content job (x ∷ xs) (suc place) is none = held_some content job xs place is.1 (rw is.0 at none)
-
--- what a number reads for which nothing is held
-pub reads_zero : {X : Type 0} (job : ℕ) (v : X) → job ≡ 0 → cond (nat_eq job 0) (Some v) None ≡ Some v
-reads_zero job v is = rw is refl
 
 pub reads_present : {X : Type 0} (zero : Bool) (v : X) (P : X → Type 0) → IsSomeAnd (cond zero (Some v) None) P → cond zero (Some v) None ≡ Some v
 reads_present true v P some = refl

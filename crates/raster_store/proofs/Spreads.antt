@@ -1,5 +1,5 @@
 -- Lists of runs that stand for the same cells.
-use Rattle.std.proofs.Common.{◌≡◌, ℕ, zero, suc, ◌+◌, ◌-◌, ◌<◌, ◌≤◌, ℤ, pos, List, [], ◌∷◌, ◌++◌, length, take, drop, replicate, get_or, min, refl, sym, ap, ap₂, ◌∙◌, arith, append_assoc, take_all, take_at, inl, inr, Bool, true, false, cond}
+use Rattle.std.proofs.Common.{◌≡◌, ℕ, zero, suc, ◌+◌, ◌-◌, ◌<◌, ◌≤◌, ℤ, pos, List, [], ◌∷◌, ◌++◌, length, take, drop, replicate, get_or, min, refl, sym, ap, ap₂, ◌∙◌, arith, append_assoc, take_all, take_at, inl, inr, Bool, false, cond}
 use Rattle.std.proofs.lemmas.Bool.{cases_lt}
 use Rattle.std.proofs.lemmas.List.{drop_more, drop_all}
 use Rattle.arr_core.specs.declared.runs.RunList.{RunList}
@@ -8,10 +8,6 @@ use Rattle.arr_core.specs.Runs.{spread, runs_of, cells_of}
 -- the cells of a list that is not narrow
 pub wide-cells : (runs : RunList) → runs.is_narrow ≡ false → cells_of runs ≡ runs_of runs.values.items runs.counts.items
 wide-cells runs wide = ap (λ (b : Bool). cond b runs.narrow.items (runs_of runs.values.items runs.counts.items)) wide
-
--- and of one that is
-pub narrow-cells : (runs : RunList) → runs.is_narrow ≡ true → cells_of runs ≡ runs.narrow.items
-narrow-cells runs narrow = ap (λ (b : Bool). cond b runs.narrow.items (runs_of runs.values.items runs.counts.items)) narrow
 
 pub spread-none : (values : List ℤ) → spread values [] ≡ []
 spread-none [] = refl

@@ -45,12 +45,6 @@ partly_next f (suc k) (x ∷ xs) d lt =
     let e : suc k + 1 ≡ suc (k + 1) = omega arith in
     ap (λ l. f x ∷ l) (partly_next f k xs d (omega arith)) ∙ ap (λ j. partly f j (x ∷ xs)) (sym e)
 
-pub partly_all : {X : Type 0} (f : X → X) (k : ℕ) (xs : List X) → length xs ≤ k → partly f k xs ≡ map f xs
-partly_all f zero [] h = refl
-partly_all f (suc k) [] h = refl
-partly_all f zero (x ∷ xs) h = absurd (omega arith)
-partly_all f (suc k) (x ∷ xs) h = ap (λ l. f x ∷ l) (partly_all f k xs (omega arith))
-
 pub length-partly : {X : Type 0} (f : X → X) (k : ℕ) (xs : List X) → length (partly f k xs) ≡ length xs
 length-partly f zero [] = refl
 length-partly f (suc k) [] = refl
@@ -102,9 +96,6 @@ settled_blank s regs b binds (f ∷ fields) positions envs c h lt =
     ∙ ap (λ l. map (run s regs (behind (b ∷ binds) f.body)) envs ∷ l) (settled_blank s regs b binds fields positions envs c h lt)
 
 -- ---- places
-
-pub position_there : {cs : ℕ → Option Signature} {n : ℕ} (b : BindTree) (binds : List BindTree) (fields : List FieldBody) (envs : List (List ℤ)) → FieldsHavePlace cs n (b ∷ binds) fields envs → HasPlace cs n b.position envs
-position_there b binds fields envs h = record { scope = h.scope; placed = h.placed.0; within = h.within }
 
 map_pushed_one : {X Y : Type 0} (f : X → Y) (xs : List X) (x : X) → map f (xs ++ x ∷ []) ≡ map f xs ++ f x ∷ []
 map_pushed_one f [] x = refl

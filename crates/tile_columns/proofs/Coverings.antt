@@ -44,15 +44,6 @@ turns_more edge vs axes rest a is further i s b t e f behind along n ts ps =
           ∙ ap (λ x. turns x k) (sym box);
     }
 
--- no index turns over the one tile without axes
-pub turns_none : (edge : ℕ) (vs : List Variable) (axes : List Axis) (is : List Index) (t : Covered) → axes ≡ [] → is ≡ [] → t.number ≡ 0 → t.tiles ≡ 1 → t.points ≡ 1 → TurnsOver edge vs is axes t
-turns_none edge vs axes is t e f n ts ps = record {
-  tiles = ts ∙ ap (λ x. count (grid edge x)) (sym e);
-  number = omega (arith, n, ts);
-  points = ps ∙ ap (λ x. count (box_of_tile edge x t.number)) (sym e);
-  turns = λ k. ap (numbers_at (environment vs k)) f ∙ ap (λ x. turns (box_of_tile edge x t.number) k) (sym e);
-}
-
 -- as many places as points
 pub covers : (axes : List Axis) (vs : List Variable) (is : List Index) (places : ℕ) (t : Covered) → TurnsOver (edge_of (length axes)) vs is axes t → t.points ≡ places → GoesOver axes is (environments places vs) t.number
 covers axes vs is places t over e =

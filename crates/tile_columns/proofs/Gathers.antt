@@ -1,10 +1,9 @@
 -- Cells that are gathered tile by tile.
 use Rattle.std.proofs.Common.{◌≡◌, ◌≢◌, ℕ, zero, suc, ◌+◌, ◌<◌, ◌≤◌, inl, inr, List, [], ◌∷◌, ◌++◌, length, length-append, get_or, take, map, refl, sym, ap, ◌∙◌, subst, arith, ℤ, pos, cond, Bool, true, false}
-use Rattle.std.specs.Prelude.{nat_eq, ◌||◌, slice_get, Some}
+use Rattle.std.specs.Prelude.{nat_eq, ◌||◌}
 use Rattle.std.specs.List.{list_any}
 use Rattle.std.proofs.lemmas.Bool.{false≢true}
 use Rattle.std.proofs.lemmas.Bool.Decides.{eqb_tells}
-use Rattle.std.proofs.lemmas.Option.{slice_get-get_or, slice_get_within}
 use Rattle.std.proofs.lemmas.List.{take_more, length-map, same_lists, get_or-map}
 use Rattle.std.proofs.lemmas.List.Folds.{list_any-append}
 use Rattle.arr_core.specs.declared.domain.Axis.{Axis}
@@ -78,9 +77,6 @@ distinct_more seen (m ∷ ns) n = distinct_more (added seen m) ns n
 pub distinct_step : (ns seen new : List ℕ) (i : ℕ) → i < length ns → new ≡ added seen (get_or ns i 0) → seen ≡ distinct (take i ns) → new ≡ distinct (take (i + 1) ns)
 distinct_step ns seen new i lt e h = e ∙ ap (λ l. added l (get_or ns i 0)) h ∙ sym (distinct_more [] (take i ns) (get_or ns i 0)) ∙ ap distinct (sym (take_more ns i 0 lt))
 
-pub added_seen : (seen : List ℕ) (n : ℕ) → list_any (λ m. nat_eq m n) seen ≡ true → seen ≡ added seen n
-added_seen seen n h = ap (λ b. cond b seen (seen ++ n ∷ [])) (sym h)
-
 pub added_new : (seen : List ℕ) (n : ℕ) → list_any (λ m. nat_eq m n) seen ≡ false → seen ++ n ∷ [] ≡ added seen n
 added_new seen n h = ap (λ b. cond b seen (seen ++ n ∷ [])) (sym h)
 
@@ -124,20 +120,9 @@ pub distinct_some : (ns : List ℕ) → 0 < length ns → 1 ≤ length (distinct
 distinct_some [] h = absurd (omega arith)
 distinct_some (n ∷ ns) h = grows (n ∷ []) ns
 
--- the points of indexes that go over the box of a tile
-pub whole_box : (envs : List (List ℤ)) (is : List Index) (boxes : List (List Axis)) (n : ℕ) (area : List Axis) → map (λ e. numbers_at e is) envs ≡ points area → slice_get boxes n ≡ Some area → map (λ e. numbers_at e is) envs ≡ points (get_or boxes n [])
-whole_box envs is boxes n area e h =
-    let q = slice_get-get_or boxes n [] (slice_get_within boxes n area h) in
-    let o : get_or boxes n [] ≡ area = cc in
-    e ∙ ap points (sym o)
-
 -- the cells of a tile are those that the indexes give
 pub whole_column : (envs : List (List ℤ)) (is : List Index) (box : List Axis) (s : List ℤ → ℤ) → map (λ e. numbers_at e is) envs ≡ points box → map (λ q. Value (s q)) (points box) ≡ map (λ e. Value (s (numbers_at e is))) envs
 whole_column envs is box s w = ap (map (λ q. Value (s q))) (sym w) ∙ map_map (λ q. Value (s q)) (λ e. numbers_at e is) envs
 
 pub whole_places : (envs : List (List ℤ)) (is : List Index) (box : List Axis) (n : ℕ) → map (λ e. numbers_at e is) envs ≡ points box → n ≡ count box → n ≡ length envs
 whole_places envs is box n w e = e ∙ sym (length-points box) ∙ ap length (sym w) ∙ length-map envs (λ e. numbers_at e is)
-
--- the last of a list is in it
-pub last_seen : (seen rest : List ℕ) (m n : ℕ) → seen ≡ rest ++ m ∷ [] → m ≡ n → list_any (λ k. nat_eq k n) seen ≡ true
-last_seen seen rest m n e h = ap (list_any (λ k. nat_eq k n)) e ∙ ap (λ x. list_any (λ k. nat_eq k n) (rest ++ x ∷ [])) h ∙ seen_now rest n

@@ -8,8 +8,7 @@ use Rattle.std.proofs.lemmas.List.{map_more}
 use Rattle.tile_kernel.specs.Columns.{outcome_at}
 use Rattle.arr_core.specs.declared.domain.Axis.{Axis}
 use Rattle.arr_core.specs.declared.signature.Signature.{Signature}
-use Rattle.arr_core.specs.Domains.{gap, points, count, IsInside, AreOrdered}
-use Rattle.arr_core.proofs.Points.{length-points}
+use Rattle.arr_core.specs.Domains.{gap, points, IsInside, AreOrdered}
 use Rattle.wcps_mean.specs.declared.cell.Outcome.{Outcome}
 use Rattle.wcps_mean.specs.declared.cell.Outcome.TheVariants.{Value}
 use Rattle.plan_ir.specs.declared.body.Interval.{Interval}
@@ -22,7 +21,6 @@ use Rattle.std.proofs.Common.{◌/◌}
 use Rattle.std.proofs.Math.Nat.{mul-le-mul_right, div-mul-le_self}
 use Rattle.tile_columns.specs.declared.reach.Extents.{Extents}
 use Rattle.tile_columns.specs.declared.windows.Window.{Window}
-use Rattle.tile_columns.specs.Sources.{IsRead}
 use Rattle.tile_columns.specs.Reaching.{between, cross, extent, HasExtents, Encloses}
 use Rattle.tile_columns.specs.Reaching.{IsReach}
 use Rattle.tile_columns.specs.Windows.{Covers, AreRowsOf, value_of}
@@ -32,14 +30,6 @@ use Rattle.tile_columns.proofs.Grid.{map_map, map_then, map_cross, cross_then, l
 use Rattle.tile_columns.proofs.WindowMeaning.{extents_points, between_length}
 
 -- ---- the coverage that is read
-
-pub read_there : (w : Window) (signatures all : List Signature) (n : ℕ) (item : Signature) → signatures ≡ all → item ≡ get_or signatures n item → IsSomeAnd (slice_get signatures n) (Covers w) → IsRead (slice_get all n) w.pattern.field item.domain
-read_there w signatures all n item e i h = subst (λ l. IsRead (slice_get l n) w.pattern.field item.domain) e (go signatures n item i h)
-  where
-    go : (l : List Signature) (n : ℕ) (item : Signature) → item ≡ get_or l n item → IsSomeAnd (slice_get l n) (Covers w) → IsRead (slice_get l n) w.pattern.field item.domain
-    go [] n item i h = absurd h
-    go (s ∷ l) zero item i h = (h.field, ap (λ (x : Signature). x.domain) (sym i))
-    go (s ∷ l) (suc n) item i h = go l n item i h
 
 pub covers_item : (w : Window) (l : List Signature) (n : ℕ) (item : Signature) → item ≡ get_or l n item → IsSomeAnd (slice_get l n) (Covers w) → Covers w item
 covers_item w [] n item i h = absurd h
@@ -130,9 +120,6 @@ rows_many x area h =
     let columns = between x.columns.lo x.columns.hi in
     ap length (extents_points x area h) ∙ length_cross (λ y x. y ∷ x ∷ []) rows columns
     ∙ ap (λ n. n * length columns) (between_length x.rows.lo x.rows.hi) ∙ ap (λ n. extent x.rows * n) (between_length x.columns.lo x.columns.hi)
-
-pub rows_count : (x : Extents) (area : List Axis) → HasExtents x area → count area ≡ extent x.rows * extent x.columns
-rows_count x area h = sym (length-points area) ∙ rows_many x area h
 
 -- ---- one row after the other
 

@@ -7,13 +7,12 @@ use Rattle.std.proofs.lemmas.List.Elements.{All-map}
 use Rattle.arr_core.specs.declared.domain.Axis.{Axis}
 use Rattle.arr_core.specs.declared.signature.Signature.{Signature}
 use Rattle.arr_core.specs.Domains.{IsInside}
-use Rattle.wcps_text.specs.declared.operator.UnaryOperator.{UnaryOperator}
 use Rattle.wcps_text.specs.declared.operator.BinaryOperator.{BinaryOperator}
 use Rattle.wcps_text.specs.declared.operator.Aggregate.{Aggregate}
 use Rattle.plan_ir.specs.declared.body.Interval.{Interval}
 use Rattle.plan_ir.specs.declared.body.Index.{Index}
 use Rattle.plan_ir.specs.declared.body.Index.TheVariants.{Const, Var}
-use Rattle.plan_ir.specs.Bodies.{Tree, op1, op2, read, table, bind, fold}
+use Rattle.plan_ir.specs.Bodies.{Tree, op2, read, table, bind, fold}
 use Rattle.plan_ir.specs.Run.{number_at, numbers_at}
 use Rattle.plan_ir.specs.Placed.{span, spans, LiesWithin, LiesIn, Indexes, HasCells}
 use Rattle.plan_ir.specs.Plans.{signature_of}
@@ -55,9 +54,6 @@ point_within (a ∷ box) [] i = absurd i
 point_within (a ∷ box) (z ∷ x) i = (i.0, i.1, point_within box x i.2)
 
 -- ---- the parts of a body
-
-pub operand_place : {cs : ℕ → Option Signature} {n : ℕ} (op : UnaryOperator) (e : Tree) (envs : List (List ℤ)) → HasPlace cs n (op1 op e) envs → HasPlace cs n e envs
-operand_place op e envs h = record { scope = h.scope; placed = h.placed; within = h.within }
 
 pub left_place : {cs : ℕ → Option Signature} {n : ℕ} (op : BinaryOperator) (l r : Tree) (envs : List (List ℤ)) → HasPlace cs n (op2 op l r) envs → HasPlace cs n l envs
 left_place op l r envs h = record { scope = h.scope; placed = h.placed.0; within = h.within }

@@ -1,5 +1,5 @@
 -- Lists made from a function of the place.
-use Rattle.std.proofs.Common.{◌≡◌, ◌≢◌, ℕ, ℤ, pos, zero, suc, ◌+◌, ◌<◌, ◌≤◌, List, [], ◌∷◌, ◌++◌, length, get_or, set, take, map, refl, sym, ap, ◌∙◌, arith, below_more, get_or-set_same, get_or-set_other}
+use Rattle.std.proofs.Common.{◌≡◌, ◌≢◌, ℕ, zero, suc, ◌+◌, ◌<◌, ◌≤◌, List, [], ◌∷◌, ◌++◌, length, get_or, set, take, map, refl, sym, ap, ◌∙◌, arith, below_more, get_or-set_same, get_or-set_other}
 use Rattle.std.specs.List.{range_with_len}
 use Rattle.std.proofs.lemmas.Option.{slice_get-get_or}
 use Rattle.std.specs.Prelude.{replicate}
@@ -45,10 +45,6 @@ map_pushed f xs i d o column new lt e n h = n ∙ ap (λ l. l ++ o ∷ []) h ∙
 -- one more element, which was written as a number of its own
 pub value_pushed : {X Y : Type 0} (f : X → Y) (xs : List X) (i : ℕ) (d : X) (o z : Y) (column new : List Y) → i < length xs → new ≡ column ++ o ∷ [] → o ≡ z → z ≡ f (get_or xs i d) → column ≡ map f (take i xs) → new ≡ map f (take (i + 1) xs)
 value_pushed f xs i d o z column new lt n e v h = map_pushed f xs i d o column new lt (e ∙ v) n h
-
--- the same numbers at the same places
-pub same_items : (xs ys : List ℤ) → length xs ≡ length ys → ((k : ℕ) → k < length xs → get_or xs k (pos 0) ≡ get_or ys k (pos 0)) → xs ≡ ys
-same_items xs ys e h = same_lists xs ys e (λ k d lt. at_same xs k d (pos 0) lt ∙ h k lt ∙ at_same ys k (pos 0) d (omega (arith, e, lt)))
 
 -- one more number written
 pub written_more : {X : Type 0} (f : ℕ → X) (all : List X) (place : ℕ) (x d : X) → place < length all → x ≡ f place → ((k : ℕ) → k < place → get_or all k d ≡ f k) → (k : ℕ) → k < place + 1 → get_or (set all place x) k d ≡ f k

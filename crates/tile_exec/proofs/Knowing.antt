@@ -5,7 +5,7 @@ use Rattle.std.specs.List.{All, Contains, range_with_len}
 use Rattle.std.specs.declared.cmp.Ordering.TheVariants.{Equal}
 use Rattle.std.specs.Ordering.{int_cmp}
 use Rattle.std.proofs.lemmas.Cmp.{int_ranked}
-use Rattle.std.proofs.lemmas.List.{length-map, get_or-map, get_or_append_left, get_or-append-add}
+use Rattle.std.proofs.lemmas.List.{length-map, get_or-map}
 use Rattle.std.proofs.lemmas.Option.{get_or_from_slice_get}
 use Rattle.arr_core.specs.declared.domain.Axis.{Axis}
 use Rattle.arr_core.specs.declared.signature.Signature.{Signature}
@@ -16,7 +16,7 @@ use Rattle.wcps_mean.specs.declared.cell.Outcome.TheVariants.{Value}
 use Rattle.plan_ir.specs.declared.plan.Field.{Field}
 use Rattle.plan_ir.specs.declared.plan.Item.{Item}
 use Rattle.plan_ir.specs.Bodies.{Tree, body_view, fold_view}
-use Rattle.plan_ir.specs.Placed.{IsPlaced, ItemIsPlaced, spans}
+use Rattle.plan_ir.specs.Placed.{IsPlaced, spans}
 use Rattle.plan_ir.specs.Planned.{cells_of}
 use Rattle.plan_ir.specs.Plans.{FieldBody, signature_of, bind_view, field_view, item_view}
 use Rattle.plan_ir.specs.Run.{run}
@@ -24,7 +24,7 @@ use Rattle.plan_ir.specs.Units.{bound_of, bound_times}
 use Rattle.tile_kernel.specs.Columns.{outcome_at}
 use Rattle.tile_columns.specs.declared.ground.Ground.{Ground}
 use Rattle.tile_columns.specs.declared.zones.Key.{Key}
-use Rattle.tile_columns.specs.Evaluating.{AreWithin, HasPlace}
+use Rattle.tile_columns.specs.Evaluating.{AreWithin}
 use Rattle.tile_columns.specs.Fields.{columns_behind}
 use Rattle.tile_columns.specs.Keys.{key_in, IsKeyOf, IsFoundKey}
 use Rattle.tile_columns.specs.Meaning.{chosen, meaning}
@@ -37,7 +37,7 @@ use Rattle.tile_exec.specs.declared.known.Known.{Known}
 use Rattle.tile_exec.specs.declared.known.KnownOutcome.{KnownOutcome}
 use Rattle.tile_exec.specs.declared.samples.Sample.{Sample}
 use Rattle.tile_exec.specs.Known.{point_of, IsKnownAt, IsKnownOf, IsKnown, KnowsBody, IsKnownPair, AreKnownPairs, IsSampleOf, ArePairs, IsKeyedOver, IsKeyedAt, IsKeyOfItem, IsColumnBy, Pays}
-use Rattle.tile_exec.specs.Tasks.{item, bodies_of, IsPartPlaced}
+use Rattle.tile_exec.specs.Tasks.{item, bodies_of}
 
 -- ---- places
 
@@ -127,17 +127,6 @@ below_or (suc k) zero lt = absurd (omega arith)
 below_or (suc k) (suc n) lt = elim (below_or k n (omega arith)) [
   | inl a ↦ inl (omega (arith, a))
   | inr e ↦ inr (ap suc e)
-]
-
-pub pairs_more : (known : List KnownOutcome) (keys outcomes new : List Outcome) (place : ℕ) (o : Outcome) → new ≡ outcomes ++ o ∷ [] → length outcomes ≡ place → IsKnownPair known (outcome_at keys place) o
-    → ((k : ℕ) → k < place → IsKnownPair known (outcome_at keys k) (outcome_at outcomes k)) → (k : ℕ) → k < place + 1 → IsKnownPair known (outcome_at keys k) (outcome_at new k)
-pairs_more known keys outcomes new place o is long one each k lt = elim (below_or k place lt) [
-  | inl a ↦ subst (IsKnownPair known (outcome_at keys k)) (sym (ap (λ l. outcome_at l k) is ∙ get_or_append_left outcomes (o ∷ []) (Value (pos 0)) k (omega (arith, a, long)))) (each k a)
-  | inr e ↦ (
-      let at : k ≡ length outcomes + 0 = omega (arith, e, long) in
-      let there : outcome_at new k ≡ o = ap (λ l. outcome_at l k) is ∙ ap (outcome_at (outcomes ++ o ∷ [])) at ∙ get_or-append-add outcomes (o ∷ []) 0 (Value (pos 0)) in
-      subst (IsKnownPair known (outcome_at keys k)) (sym there) (subst (λ n. IsKnownPair known (outcome_at keys n) o) (sym e) one)
-      )
 ]
 
 own_list : {X : Type 0} (xs : List X) → xs ≡ map (λ x. x) xs
@@ -242,14 +231,6 @@ one_field : (P : FieldBody → Type 0) (f : FieldBody) → P f → All P (f ∷ 
 one_field P f h zero d lt = h
 one_field P f h (suc n) d lt = absurd (omega arith)
 
-pub of_item : {K : Type 0} (s : SourceState K) (g : Ground) (i : Item) (field : Field) (body : Tree) (known : Option Known) → i.fields.items ≡ field ∷ [] → body ≡ body_view field.body → KnowsBody s g (length i.domain) body known
-    → s.intact → IsKnown (cells_of s.cells g.coverages.now) g.registers.now (item_view i) known
-of_item s g i field body None fields is h intact = tt
-of_item s g i field body (Some k) fields is h intact =
-    let cells = cells_of s.cells g.coverages.now in
-    let P = λ (f : FieldBody). IsKnownOf cells g.registers.now (length i.domain) f.body k in
-    subst (λ l. All P (map field_view l)) (sym fields) (one_field P (field_view field) (subst (λ t. IsKnownOf cells g.registers.now (length i.domain) t k) is (h intact)))
-
 -- what was found is known, else what was known before
 pub known_now : {K : Type 0} (s : SourceState K) (g : Ground) (depth : ℕ) (body : Tree) (found now before : Option Known) → IfSome found (λ k. now ≡ Some k) → IfNone found (now ≡ before) → KnowsBody s g depth body found → KnowsBody s g depth body before → KnowsBody s g depth body now
 known_now s g depth body None now before a b f h = subst (KnowsBody s g depth body) (sym b) h
@@ -275,14 +256,6 @@ keyed_later s now g area k same h = record {
   placed = subst (λ all. IsPlaced (signature_of all g.coverages.now) (length g.registers.now) (spans area) (fold_view k.fold.now)) (sym same) h.placed;
 }
 
-pub keyed_at_later : {K : Type 0} (s now : SourceState K) (g : Ground) (part : List Axis) (k : Key) → now.coverages ≡ s.coverages → IsKeyedAt s g part k → IsKeyedAt now g part k
-keyed_at_later s now g part k same h = record {
-  some = h.some;
-  found = h.found;
-  body = subst (λ all. HasPlace (signature_of all g.coverages.now) (length g.registers.now) (fold_view k.fold.now) (points part)) (sym same) h.body;
-  key = subst (λ all. HasPlace (signature_of all g.coverages.now) (length g.registers.now) (body_view k.body.now) (points part)) (sym same) h.key;
-}
-
 -- the key's evaluations by the tree that was found
 pub key_times : (depth n : ℕ) (body : Tree) (k : Key) → IsFoundKey depth body k → fold_view k.fold.now ≡ body → bound_times n (key_in k.zones (fold_view k.fold.now)) ≡ bound_times n (body_view k.body.now)
 key_times depth n body k h is = ap (λ t. bound_times n (key_in k.zones t)) is ∙ ap (bound_times n) (sym h.is)
@@ -291,20 +264,6 @@ pub knows_before : {K : Type 0} (s now : SourceState K) (g : Ground) (depth : �
 knows_before s now g depth body known same intact h = λ i. subst (λ c. IfSome known (IsKnownOf (cells_of c g.coverages.now) g.registers.now depth body)) same (h i (intact i))
 
 -- ---- the key of an item
-
-body_placed : (cs : ℕ → Option Signature) (n : ℕ) (i : Item) (field : Field) → i.binds.items ≡ [] → i.fields.items ≡ field ∷ [] → IsPartPlaced cs n (item (item_view i)) → IsPlaced cs n (spans i.domain) (body_view field.body)
-body_placed cs n i field binds fields placed =
-    let a : ItemIsPlaced cs n (spans i.domain) [] (map field_view i.fields.items) = subst (λ l. ItemIsPlaced cs n (spans i.domain) (map bind_view l) (map field_view i.fields.items)) binds placed.1 in
-    (subst (λ l. ItemIsPlaced cs n (spans i.domain) [] (map field_view l)) fields a).0
-
-pub keyed_over : {K : Type 0} (s : SourceState K) (g : Ground) (i : Item) (area part : List Axis) (k : Key) → IsKeyOfItem i part k → area ≡ i.domain → IsPartPlaced (chosen s g) (length g.registers.now) (item (item_view i)) → IsKeyedOver s g area k
-keyed_over s g i area part k h same placed =
-    let found = h.found in
-    let own : IsPlaced (chosen s g) (length g.registers.now) (spans i.domain) (body_view h.field.body) = body_placed (chosen s g) (length g.registers.now) i h.field h.binds h.fields placed in
-    record {
-      found = subst (λ a. IsFoundKey (length a) (fold_view k.fold.now) k) (sym same) (subst (λ t. IsFoundKey (length i.domain) t k) (sym found.fold) found);
-      placed = subst (λ a. IsPlaced (chosen s g) (length g.registers.now) (spans a) (fold_view k.fold.now)) (sym same) (subst (IsPlaced (chosen s g) (length g.registers.now) (spans i.domain)) (sym found.fold) own);
-    }
 
 pub item_cost : (cs : ℕ → Option Signature) (i : Item) (area part : List Axis) (k : Key) → IsKeyOfItem i part k → area ≡ i.domain
     → bound_times (count area + 12288) (body_view k.body.now) + bound_times 2 (fold_view k.fold.now) ≤ sum_by (bound_of cs part) (bodies_of (item (item_view i)))

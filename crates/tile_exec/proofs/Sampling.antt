@@ -1,9 +1,9 @@
 -- Samples of a key, and the frame of their points.
-use Rattle.std.proofs.Common.{◌≡◌, ℕ, suc, ◌+◌, ◌<◌, ◌≤◌, ◌⊎◌, inl, inr, List, [], ◌∷◌, ◌++◌, length, map, get_or, take, drop, ℤ, pos, refl, sym, ap, ◌∙◌, subst, arith}
+use Rattle.std.proofs.Common.{◌≡◌, ℕ, suc, ◌+◌, ◌<◌, ◌≤◌, ◌⊎◌, inl, inr, List, [], ◌∷◌, ◌++◌, length, map, get_or, take, ℤ, pos, refl, sym, ap, ◌∙◌, subst, arith}
 use Rattle.std.specs.Prelude.{replicate}
 use Rattle.std.specs.List.{All, Contains, flat_map, range_with_len}
 use Rattle.std.proofs.lemmas.List.{length-map, get_or-map}
-use Rattle.std.proofs.lemmas.List.Elements.{All-cons, All-append, All-take, All-drop, Contains-get_or}
+use Rattle.std.proofs.lemmas.List.Elements.{Contains-get_or}
 use Rattle.std.proofs.lemmas.Option.{get_or_from_slice_get}
 use Rattle.arr_core.specs.declared.domain.Axis.{Axis}
 use Rattle.arr_core.specs.Domains.{points, count, IsBoxOf, AreOrdered}
@@ -34,12 +34,6 @@ kept_all P New old new all adds fresh k d lt = elim (adds k d lt) [
 
 pub none_added : (part : List Axis) (place : ℕ) (key : Outcome) (xs : List Sample) → AddsPoint part place key xs xs
 none_added part place key xs k d lt = inl (Contains-get_or xs k d lt)
-
-pub one_added : (part : List Axis) (place i : ℕ) (key : Outcome) (xs new : List Sample) (x : Sample) → new ≡ take i xs ++ x ∷ drop i xs → IsPointOf part place key x → AddsPoint part place key xs new
-one_added part place i key xs new x is one =
-    let P = λ (y : Sample). Contains xs y ⊎ IsPointOf part place key y in
-    let all : All P xs = λ k d lt. inl (Contains-get_or xs k d lt) in
-    subst (All P) (sym is) (All-append P (take i xs) (x ∷ drop i xs) (All-take P i xs all) (All-cons P x (drop i xs) (inr one) (All-drop P i xs all)))
 
 pub none_so_far : (part : List Axis) (keys : List Outcome) (xs : List Sample) → AddsPoints part keys xs xs
 none_so_far part keys xs k d lt = inl (Contains-get_or xs k d lt)

@@ -1,11 +1,10 @@
 -- The greatest and the least of values.
 use Rattle.std.proofs.Common.{◌≡◌, arith, List, [], ◌∷◌, ◌++◌, refl, sym, ap, ◌∙◌, ℤ, ◌≤ℤ◌, ◌<ℤ◌, Option, Some, None, ◌⊎◌, inl, inr}
 use Rattle.std.proofs.lemmas.Int.{ints, by_lt_z}
-use Rattle.wcps_text.specs.declared.operator.Aggregate.{Aggregate}
-use Rattle.wcps_text.specs.declared.operator.Aggregate.TheVariants.{Sum, Product, Greatest, Least, Every, Any, Count, Average}
+use Rattle.wcps_text.specs.declared.operator.Aggregate.TheVariants.{Greatest, Least}
 use Rattle.wcps_mean.specs.Condensers.{larger, smaller, greatest, least}
 use Rattle.wcps_mean.specs.Best.{greatest_of, least_of}
-use Rattle.tile_kernel.specs.Joins.{better, best_both}
+use Rattle.tile_kernel.specs.Joins.{best_both}
 
 -- ---- the larger of two
 
@@ -146,13 +145,3 @@ least_of-append [] ws = refl
 least_of-append (z ∷ zs) ws =
     least_of-cons z (zs ++ ws) ∙ ap (bottom_more z) (least_of-append zs ws) ∙ bottom_of_more z (least_of zs) (least_of ws)
     ∙ ap (λ o. best_both Least o (least_of ws)) (sym (least_of-cons z zs))
-
-pub better_other : (op : Aggregate) (x y : ℤ) → (op ≡ Greatest → ⊥) → better op x y ≡ smaller x y
-better_other Sum x y h = refl
-better_other Product x y h = refl
-better_other Greatest x y h = absurd (h refl)
-better_other Least x y h = refl
-better_other Every x y h = refl
-better_other Any x y h = refl
-better_other Count x y h = refl
-better_other Average x y h = refl

@@ -2,7 +2,6 @@
 use Rattle.std.proofs.Common.{◌≡◌, ℕ, ◌+◌, ◌<◌, ℤ, ◌+ℤ◌, arith, below_more, get_or, List, [], ◌∷◌, ◌++◌, length, map, length-append, refl, sym, ap, ◌∙◌, subst, Option, Some, None, Bool}
 use Rattle.std.specs.List.Sorted.{IsPermutation}
 use Rattle.std.proofs.lemmas.List.{append-nil, map-append, length-map, get_or_append_left, get_or_push}
-use Rattle.std.proofs.lemmas.List.Elements.{All-nil}
 use Rattle.std.proofs.lemmas.List.Sorted.{All-permutation, Contains-permutation, IsPermutation-refl, IsPermutation-trans, IsPermutation-append, IsPermutation-append_comm}
 use Rattle.wcps_text.specs.declared.operator.Aggregate.{Aggregate}
 use Rattle.wcps_mean.specs.declared.product.Product as product
@@ -92,9 +91,6 @@ stands_as keeps op s a fault place told kept o n f e h = record {
   faulted = same_fault a.running.fault fault a.place place told f e (first_unordered fault place h.0 told h.1 h.2.faulted);
   kept = subst (λ q. Keeps q a.running (values (outcomes told))) (sym o) (keeps_permuted op a.running h.0 told h.1 (kept (values (outcomes h.0)) h.2.kept));
 }
-
-pub kept_none : {S : Type 0} (keeps : S → List ℤ → Type 0) (s : S) (place : ℕ) → keeps s [] → IsKeptOf keeps s None place []
-kept_none keeps s place h = ([], IsPermutation-refl [], record { faulted = All-nil (λ (t : Told). IsValue t.1); kept = h })
 
 pub kept_value : {S : Type 0} (keeps : S → List ℤ → Type 0) (s : S) (place : ℕ) (z : ℤ) → keeps s (z ∷ []) → IsKeptOf keeps s None place ((place, Value z) ∷ [])
 kept_value keeps s place z h = ((place, Value z) ∷ [], IsPermutation-refl ((place, Value z) ∷ []), record { faulted = fault_of_one place (Value z); kept = h })

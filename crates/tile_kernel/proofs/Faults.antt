@@ -34,9 +34,6 @@ pub right_alone : (b : Option PointFault) (q : ℕ) (told more : List Told) → 
 right_alone None q told more h g = All-append (λ (t : Told). IsValue t.1) told more h g
 right_alone (Some f) q told more h g = (Contains-append_right told more (q, Fault f) g.0, All-append (λ (t : Told). StandsFrom q t.0 t.1) told more (values_from q told h) g.1)
 
-pub left_first : (f g : PointFault) (p q : ℕ) (told more : List Told) → p ≤ q → IsFirst (Some f) p told → IsFirst (Some g) q more → IsFirst (Some f) p (told ++ more)
-left_first f g p q told more le h k = (Contains-append_left told more (p, Fault f) h.0, All-append (λ (t : Told). StandsFrom p t.0 t.1) told more h.1 (all_from p q more le k.1))
-
 pub right_first : (f g : PointFault) (p q : ℕ) (told more : List Told) → q ≤ p → IsFirst (Some f) p told → IsFirst (Some g) q more → IsFirst (Some g) q (told ++ more)
 right_first f g p q told more le h k = (Contains-append_right told more (q, Fault g) k.0, All-append (λ (t : Told). StandsFrom q t.0 t.1) told more (all_from q p told le h.1) k.1)
 

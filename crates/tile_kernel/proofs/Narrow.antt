@@ -1,6 +1,6 @@
 -- Values that fit 32 bits.
-use Rattle.std.proofs.Common.{◌≡◌, ℕ, zero, suc, ◌+◌, ◌*◌, ◌<◌, ◌≤◌, ◌^◌, unsigned_abs, arith, ℤ, pos, negsuc, ◌+ℤ◌, ◌-ℤ◌, ◌*ℤ◌, ◌≤ℤ◌, ◌≢◌, List, length, get_or, set, max, below_more, get_or-set_other, get_or-set_same, ap, sym, refl, ◌∙◌, subst, w64, to_z, of_z, FitsSigned, SFits, Bool, true, false}
-use Rattle.std.specs.Prelude.{neg_ℤ, nat_abs, int_div}
+use Rattle.std.proofs.Common.{◌≡◌, ℕ, zero, suc, ◌+◌, ◌*◌, ◌<◌, ◌≤◌, ◌^◌, unsigned_abs, arith, ℤ, pos, negsuc, ◌+ℤ◌, ◌*ℤ◌, ◌≤ℤ◌, ◌≢◌, List, length, get_or, set, max, below_more, get_or-set_other, get_or-set_same, ap, sym, refl, ◌∙◌, subst, w64, to_z, of_z, FitsSigned, SFits, Bool, true, false}
+use Rattle.std.specs.Prelude.{neg_ℤ, int_div}
 use Rattle.std.specs.Int.{w32}
 use Rattle.std.proofs.Math.Nat.{mul-le-mul}
 use Rattle.std.proofs.lemmas.Int.{ints, fits_signed_from_abs, unsigned_abs-mul, to_z-of_z, quot_fits}
@@ -12,9 +12,6 @@ use Rattle.tile_kernel.specs.Narrow.{IsNarrowOf, AreNarrowOf, AreWithin, IsBound
 use Rattle.tile_kernel.specs.Tried.{IsTried}
 use Rattle.tile_kernel.specs.declared.narrow_loops.Bounds.{Bounds}
 use Rattle.tile_kernel.proofs.Results.{ranged_fits, fits_wide}
-
-abs_nat : (x : ℤ) → nat_abs x ≡ unsigned_abs x
-abs_nat x = omega (arith, ints)
 
 -- ---- results that fit
 
@@ -37,32 +34,12 @@ quotient_fits x (negsuc n) f h = absurd (omega (arith, ints, h))
 wide : (z : ℤ) → unsigned_abs z ≤ 2 ^ 62 → SFits w64 z
 wide z h = fits_signed_from_abs w64 z (omega (arith, h))
 
-pub sum_within : (x y : ℤ) (a b : ℕ) → unsigned_abs x ≤ a → unsigned_abs y ≤ b → a ≤ 2 ^ 31 → b ≤ 2 ^ 31 → (v : ℤ) × (unsigned_abs v ≤ a + b) × (ranged (x +ℤ y) ≡ Value v)
-sum_within x y a b p q c d =
-    let m : unsigned_abs (x +ℤ y) ≤ unsigned_abs x + unsigned_abs y = omega (arith, ints) in
-    (x +ℤ y, omega (arith, m, p, q), ranged_fits (x +ℤ y) (wide (x +ℤ y) (omega (arith, m, p, q, c, d))))
-
-pub difference_within : (x y : ℤ) (a b : ℕ) → unsigned_abs x ≤ a → unsigned_abs y ≤ b → a ≤ 2 ^ 31 → b ≤ 2 ^ 31 → (v : ℤ) × (unsigned_abs v ≤ a + b) × (ranged (x -ℤ y) ≡ Value v)
-difference_within x y a b p q c d =
-    let m : unsigned_abs (x -ℤ y) ≤ unsigned_abs x + unsigned_abs y = omega (arith, ints) in
-    (x -ℤ y, omega (arith, m, p, q), ranged_fits (x -ℤ y) (wide (x -ℤ y) (omega (arith, m, p, q, c, d))))
-
 pub product_within : (x y : ℤ) (a b : ℕ) → unsigned_abs x ≤ a → unsigned_abs y ≤ b → a ≤ 2 ^ 31 → b ≤ 2 ^ 31 → (v : ℤ) × (unsigned_abs v ≤ a * b) × (ranged (x *ℤ y) ≡ Value v)
 product_within x y a b p q c d =
     let m : unsigned_abs (x *ℤ y) ≡ unsigned_abs x * unsigned_abs y = unsigned_abs-mul x y in
     let n = mul-le-mul p q in
     let far = mul-le-mul c d in
     (x *ℤ y, omega (arith, m, n), ranged_fits (x *ℤ y) (wide (x *ℤ y) (omega (arith, m, n, far))))
-
-pub negative_within : (x : ℤ) (a : ℕ) → unsigned_abs x ≤ a → a ≤ 2 ^ 31 → (v : ℤ) × (unsigned_abs v ≤ a) × (ranged (neg_ℤ x) ≡ Value v)
-negative_within x a p c =
-    let m : unsigned_abs (neg_ℤ x) ≡ unsigned_abs x = omega (arith, ints) in
-    (neg_ℤ x, omega (arith, m, p), ranged_fits (neg_ℤ x) (wide (neg_ℤ x) (omega (arith, m, p, c))))
-
-pub magnitude_within : (x : ℤ) (a : ℕ) → unsigned_abs x ≤ a → a ≤ 2 ^ 31 → (v : ℤ) × (unsigned_abs v ≤ a) × (ranged (pos (nat_abs x)) ≡ Value v)
-magnitude_within x a p c =
-    let m = abs_nat x in
-    (pos (nat_abs x), omega (arith, m, p), ranged_fits (pos (nat_abs x)) (wide (pos (nat_abs x)) (omega (arith, m, p, c))))
 
 -- a value within 31 bits fits 32
 pub within_fits : (v : ℤ) (bound : ℕ) → unsigned_abs v ≤ bound → bound ≤ 2147483647 → FitsSigned w32 v

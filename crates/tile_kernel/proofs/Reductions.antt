@@ -1,12 +1,11 @@
 -- What is kept of the values that count, one after the other.
-use Rattle.std.proofs.Common.{◌≡◌, ℕ, zero, suc, ◌+◌, ◌*◌, ◌/◌, ◌%◌, ◌^◌, ◌<◌, ◌≤◌, arith, List, [], ◌∷◌, ◌++◌, length, refl, sym, ap, ◌∙◌, subst, ℤ, pos, negsuc, ◌+ℤ◌, SFits, w64, Bool, true, false, ◌&&◌, ◌||◌, cond, Some, None, inl, inr, nat_eq, nat_lt}
+use Rattle.std.proofs.Common.{◌≡◌, ℕ, zero, suc, ◌+◌, ◌*◌, ◌/◌, ◌%◌, ◌^◌, ◌<◌, ◌≤◌, arith, List, [], ◌∷◌, ◌++◌, length, refl, sym, ap, ◌∙◌, subst, ℤ, pos, negsuc, ◌+ℤ◌, SFits, w64, Bool, true, false, ◌&&◌, ◌||◌, cond, Some, inl, inr, nat_eq, nat_lt}
 use Rattle.std.proofs.Common.{length-append, take, get_or}
 use Rattle.std.proofs.lemmas.Int.{ints}
 use Rattle.std.specs.Prelude.{replicate}
 use Rattle.std.proofs.Math.Nat.{mul-le-mul_left}
 use Rattle.std.proofs.lemmas.List.{append-nil, append_assoc, length-replicate, replicate_more, take_more, take_all}
 use Rattle.std.proofs.lemmas.Bool.{cases_eq, eq-eqb, ne_eqb, lt-ltb}
-use Rattle.wcps_mean.specs.declared.product.Product.{Product}
 use Rattle.wcps_text.specs.declared.operator.Aggregate.{Aggregate}
 use Rattle.wcps_text.specs.declared.operator.Aggregate.TheVariants as aggregates
 use Rattle.wcps_mean.specs.declared.running.Running.{Running}
@@ -14,7 +13,6 @@ use Rattle.wcps_mean.specs.Feeding.{Keeps}
 use Rattle.arr_core.specs.Cells.{truth_of}
 use Rattle.wcps_mean.specs.Condensers.{total, trues, every, any, larger, smaller, greatest, least}
 use Rattle.wcps_mean.specs.Best.{greatest_of, least_of}
-use Rattle.wcps_mean.specs.Products.{StandsFor}
 use Rattle.tile_kernel.specs.Selected.{selected, taken_in}
 
 total-push : (zs : List ℤ) (x : ℤ) → total (zs ++ x ∷ []) ≡ total zs +ℤ x
@@ -123,13 +121,6 @@ half_next t v k low h a l =
     let n = length_next t v k in
     omega (arith, m, n, l)
 
-pub product_next : (t : ℕ → ℕ) (v : ℕ → ℤ) (k : ℕ) (p q : Product) → ((zs : List ℤ) → StandsFor p zs → StandsFor q (zs ++ replicate (t k) (v k))) → StandsFor p (selected t v k) → StandsFor q (selected t v (k + 1))
-product_next t v k p q step h = subst (StandsFor q) (sym (selected_next t v k)) (step (selected t v k) h)
-
--- one more factor of so many
-pub product_more : (k : ℕ) (x : ℤ) (zs : List ℤ) (p : Product) → StandsFor p ((zs ++ replicate k x) ++ x ∷ []) → StandsFor p (zs ++ replicate (k + 1) x)
-product_more k x zs p h = let e : suc k ≡ k + 1 = omega arith in subst (λ n. StandsFor p (zs ++ replicate n x)) e (subst (StandsFor p) (sym (one_more zs k x)) h)
-
 -- ---- the greatest and the least
 
 -- the greatest of the values; m where there are none
@@ -196,22 +187,6 @@ top_next n v k t f h = subst (λ l. IsTop (negsuc 9223372036854775807) l (cond (
 pub bottom_next : (n : ℕ → ℕ) (v : ℕ → ℤ) (k : ℕ) (t : ℤ) → SFits w64 (v k) → IsBottom (pos 9223372036854775807) (selected n v k) t → IsBottom (pos 9223372036854775807) (selected n v (k + 1)) (cond (nat_lt 0 (n k)) (smaller t (v k)) t)
 bottom_next n v k t f h = subst (λ l. IsBottom (pos 9223372036854775807) l (cond (nat_lt 0 (n k)) (smaller t (v k)) t)) (sym (selected_next n v k)) (bottom_step (n k) _ (v k) t (selected n v k) (below_greatest (v k) f) h)
 
-pub no_greatest : (zs : List ℤ) (n : ℕ) → n ≡ length zs → n ≡ 0 → None ≡ greatest_of zs
-no_greatest [] n e h = refl
-no_greatest (z ∷ zs) n e h = absurd (omega arith)
-
-pub no_least : (zs : List ℤ) (n : ℕ) → n ≡ length zs → n ≡ 0 → None ≡ least_of zs
-no_least [] n e h = refl
-no_least (z ∷ zs) n e h = absurd (omega arith)
-
-pub top_is : (m t : ℤ) (zs : List ℤ) (n : ℕ) → n ≡ length zs → (n ≡ 0 → ⊥) → IsTop m zs t → Some t ≡ greatest_of zs
-top_is m t [] n e h s = absurd (h e)
-top_is m t (z ∷ zs) n e h s = ap Some s
-
-pub bottom_is : (m t : ℤ) (zs : List ℤ) (n : ℕ) → n ≡ length zs → (n ≡ 0 → ⊥) → IsBottom m zs t → Some t ≡ least_of zs
-bottom_is m t [] n e h s = absurd (h e)
-bottom_is m t (z ∷ zs) n e h s = ap Some s
-
 more_trues : (z : ℤ) (zs : List ℤ) → trues zs ≤ length zs → trues (z ∷ zs) ≤ suc (length zs)
 more_trues z zs h = grind arith
 
@@ -265,14 +240,6 @@ greatest_more zs k b lt e = ap greatest_of (take_more zs k (pos 0) lt) ∙ great
 
 pub least_more : (zs : List ℤ) (k : ℕ) (b : ℤ) → k < length zs → least_of (take k zs) ≡ Some b → least_of (take (k + 1) zs) ≡ Some (smaller b (get_or zs k (pos 0)))
 least_more zs k b lt e = ap least_of (take_more zs k (pos 0) lt) ∙ least_of-push (take k zs) b (get_or zs k (pos 0)) e
-
-pub greatest_one : (zs : List ℤ) → 0 < length zs → greatest_of (take 1 zs) ≡ Some (get_or zs 0 (pos 0))
-greatest_one [] lt = absurd (omega arith)
-greatest_one (z ∷ zs) lt = refl
-
-pub least_one : (zs : List ℤ) → 0 < length zs → least_of (take 1 zs) ≡ Some (get_or zs 0 (pos 0))
-least_one [] lt = absurd (omega arith)
-least_one (z ∷ zs) lt = refl
 
 -- the values of a list, each once
 selected_front : (zs : List ℤ) (n : ℕ) → n ≤ length zs → selected (λ k. 1) (λ k. get_or zs k (pos 0)) n ≡ take n zs

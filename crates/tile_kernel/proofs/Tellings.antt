@@ -77,9 +77,6 @@ whole (suc n) (x ∷ xs) h = ap (λ l. x ∷ l) (whole n xs (omega arith))
 pub told_all : (ps : List ℕ) (os : List Outcome) (k : ℕ) (stands : List Told → Type 0) → length ps ≡ length os → length os ≤ k → stands (take k (told_at ps os)) → stands (told_at ps os)
 told_all ps os k stands h le s = let n = length-told_at ps os h in subst stands (whole k (told_at ps os) (omega arith)) s
 
-pub told_whole : (ps : List ℕ) (os : List Outcome) (k : ℕ) (a : Accumulator) → length ps ≡ length os → length os ≤ k → Stands a (take k (told_at ps os)) → Stands a (told_at ps os)
-told_whole ps os k a = told_all ps os k (Stands a)
-
 pub demanded_whole : (ps : List ℕ) (cs os : List Outcome) (k : ℕ) (a : Accumulator) → length ps ≡ length os → length cs ≡ length os → length os ≤ k → Stands a (demanded_at (take k ps) (take k cs) (take k os)) → Stands a (demanded_at ps cs os)
 demanded_whole ps cs os k a h g le s =
     subst (Stands a) (ap (λ l. demanded_at l (take k cs) (take k os)) (whole k ps (omega arith)) ∙ ap (λ l. demanded_at ps l (take k os)) (whole k cs (omega arith)) ∙ ap (demanded_at ps cs) (whole k os le)) s

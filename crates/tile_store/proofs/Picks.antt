@@ -1,5 +1,5 @@
 -- Cells at ranks are those that the tile has there.
-use Rattle.std.proofs.Common.{◌≡◌, ℕ, zero, suc, ◌+◌, ◌-◌, ◌*◌, ◌/◌, ◌%◌, ◌<◌, ◌≤◌, IsTrue, List, [], ◌∷◌, ◌++◌, length, get_or, take, drop, map, replicate, flat_map, All, Option, Some, None, ℤ, pos, Result, Ok, Err, OnOk, arith, refl, sym, ap, ◌∙◌, subst, length-append, set, ◌≢◌, below_more}
+use Rattle.std.proofs.Common.{◌≡◌, ℕ, zero, suc, ◌+◌, ◌-◌, ◌*◌, ◌/◌, ◌%◌, ◌<◌, ◌≤◌, IsTrue, List, [], ◌∷◌, ◌++◌, length, get_or, take, drop, map, replicate, flat_map, All, Option, Some, None, ℤ, pos, Result, Ok, Err, OnOk, arith, refl, sym, ap, ◌∙◌, length-append, set, ◌≢◌, below_more}
 use Rattle.std.proofs.lemmas.List.{length-take-le, length-replicate, get_or-take, get_or_append_left, get_or-append_right, get_or-set_other, get_or-set_same}
 use Rattle.std.proofs.lemmas.List.Concat.{flat_map-cons}
 use Rattle.arr_core.specs.declared.cell.FieldType.{FieldType}
@@ -12,7 +12,7 @@ use Rattle.arr_core.proofs.Grids.{ordered-grid, edge-some, length-tile_boxes, ge
 use Rattle.arr_core.proofs.Points.{at_place, length-points, point-inside, rank-point}
 use Rattle.file_bytes.specs.declared.form.Form.{Form}
 use Rattle.file_bytes.specs.declared.form.Form.TheVariants.{Raw}
-use Rattle.run_tile.specs.Picking.{picked, AreRanks}
+use Rattle.run_tile.specs.Picking.{picked}
 use Rattle.run_tile.specs.Raw.{raw_cells, raw_count}
 use Rattle.run_tile.specs.Types.{width_of}
 use Rattle.run_tile.proofs.Picks.{raw-at, raw-same, length-raw}
@@ -29,7 +29,7 @@ use Rattle.tile_store.specs.Faults.{Refuses, of_read}
 use Rattle.tile_store.specs.declared.field.FieldTiles.{FieldTiles}
 use Rattle.tile_store.specs.Listing.{entry_times, IsSound}
 use Rattle.tile_store.specs.Picking.{IsEntryIn, cells_as, IsLast, ArePicks, LackPicks}
-use Rattle.tile_store.specs.Reading.{number_in, ArePicked, IsSpelledIn}
+use Rattle.tile_store.specs.Reading.{number_in, ArePicked}
 use Rattle.tile_store.specs.Stored.{entry_data, cells_read, tile_cells}
 use Rattle.tile_store.proofs.Cells.{number_in_tile}
 use Rattle.tile_store.proofs.Kept.{map_same}
@@ -134,15 +134,6 @@ lacks_past k s e rank size es is past honest all =
     let most : e.length / width_of k ≤ rank = rw es at past in
     omega (arith, below, count, most)
 
--- where there is none at one of them there are not all
-pub lacks_one : (form : Form) (k : FieldType) (s : BlocksState) (e : Entry) (ranks : List ℕ) (place rank : ℕ) → place < length ranks → rank ≡ get_or ranks place 0 → LackPicks form k s e (rank ∷ []) → LackPicks form k s e ranks
-lacks_one form k s e ranks place rank h is lack honest all =
-    lack honest (one rank (omega (arith, is, all place 0 h)))
-  where
-    one : (r : ℕ) → r < length (cells_as form k s e) → AreRanks (cells_as form k s e) (r ∷ [])
-    one r lt zero d l = lt
-    one r lt (suc i) d l = absurd (omega (arith, l))
-
 -- ---- reads change neither
 
 pub last_moved : {asked : ℕ → ℕ} (s s' : BlocksState) (last : Option ℕ) (bytes : List ℕ) → OnlyReads asked s s' → IsLast s last bytes → IsLast s' last bytes
@@ -157,10 +148,6 @@ entry_moved s s' e reads is = record {
 
 pub cells_moved : {asked : ℕ → ℕ} (form : Form) (k : FieldType) (s s' : BlocksState) (e : Entry) → OnlyReads asked s s' → cells_as form k s' e ≡ cells_as form k s e
 cells_moved form k s s' e reads = ap (λ (c : List ℕ). cells_read form k (entry_data c e)) reads.content
-
-pub lacks_moved : {asked : ℕ → ℕ} (form : Form) (k : FieldType) (s s' : BlocksState) (e : Entry) (ranks : List ℕ) → OnlyReads asked s s' → LackPicks form k s' e ranks → LackPicks form k s e ranks
-lacks_moved form k s s' e ranks reads lack honest all =
-    lack (rw reads.honest honest) (subst (λ (cells : List ℤ). AreRanks cells ranks) (sym (cells_moved form k s s' e reads)) all)
 
 -- ---- the numbers of a field
 
@@ -230,12 +217,6 @@ picked_none f s tile ranks cells domain below all none zeros = record {
     none_picked : (rs : List ℕ) → replicate (length rs) (pos 0) ≡ picked [] rs
     none_picked [] = refl
     none_picked (r ∷ rs) = ap (λ (l : List ℤ). pos 0 ∷ l) (none_picked rs)
-
--- a tile that lacks a cell at a rank of its points is not spelled
-pub lacks_spelled : (f : FieldTiles) (s : BlocksState) (tile : ℕ) (ranks : List ℕ) (e : Entry) → All (λ r. r < count (tile_box f.domain.now tile)) ranks → Some e ≡ found_at tile f.index.now → LackPicks e.form f.kind s e ranks → IsTrue s.honest → IsSpelledIn f s tile → ⊥
-lacks_spelled f s tile ranks e all some lack honest spelled =
-    let size = (spelled e (sym some)).1 in
-    lack honest (λ k d l. omega (arith, all k d l, size))
 
 -- ---- one cell after the other, and both forms
 

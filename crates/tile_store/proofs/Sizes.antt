@@ -58,10 +58,6 @@ pub index_long : (index : List (ℕ × Entry)) → IsIndex index → length (ind
 index_long index is =
     omega (arith, ap length (index-parts index), length-append (number_bytes (length index)) (flat_map entry_bytes index), number_long (length index), length-flat_map entry_bytes index, entries_long index is.pairs.each)
 
--- the entries of an index
-pub pair_entry : (index : List (ℕ × Entry)) (i : ℕ) (x : ℕ × Entry) → IsIndex index → i < length index → x ≡ get_or index i x → IsEntry x.1
-pair_entry index i x is h here = subst (λ (y : ℕ × Entry). IsEntry y.1) (sym here) (is.pairs.each i x h).1
-
 pub found_entry : (index : List (ℕ × Entry)) (t : ℕ) (e : Entry) → IsIndex index → found_at t index ≡ Some e → IsEntry e
 found_entry index t e is some = (found_is IsPair t index e is.pairs.each some).1
 

@@ -1,13 +1,11 @@
 -- A part of a tree over coverages is the tree's part over them.
-use Rattle.std.proofs.Common.{◌≡◌, ℕ, zero, suc, ℤ, List, [], ◌∷◌, map, refl, ap, sym, ◌∙◌, true, false}
-use Rattle.std.specs.Prelude.{pos, Option, Some, None, slice_get, option_map, option_and_then, is_some, unwrap_or}
+use Rattle.std.proofs.Common.{◌≡◌, ℕ, zero, suc, List, [], ◌∷◌, map, refl, ap, ◌∙◌, true, false}
+use Rattle.std.specs.Prelude.{Option, Some, None, slice_get, option_map, option_and_then, is_some, unwrap_or}
 use Rattle.wcps_types.specs.Typed.{Typed, number, iterator, cell, unary, binary, scalar, select, bracket, slice, array, listed, condense, condense_where, reduce, FieldTree, CombinationTree}
-use Rattle.wcps_types.specs.Renamed.{renamed, renamed_field, renamed_combination, nothing, over}
+use Rattle.wcps_types.specs.Renamed.{renamed, renamed_field, renamed_combination, over}
 use Rattle.wcps_mean.specs.declared.part.Part.{Part}
 use Rattle.wcps_mean.specs.declared.part.Part.TheVariants.{Condition, Field, CondenserCondition, CondenserValue}
-use Rattle.wcps_mean.specs.Parts.{PartTree, at_point, condition_part, body_part, tree_of_field, part_of, part_over, part_outcome}
-use Rattle.wcps_mean.specs.declared.cell.Outcome.TheVariants.{Value}
-use Rattle.wcps_mean.specs.Reading.{CellsOf}
+use Rattle.wcps_mean.specs.Parts.{PartTree, at_point, condition_part, body_part, tree_of_field, part_of, part_over}
 
 condition_over : (cs : List ℕ) (t : Typed) → condition_part (renamed cs t) ≡ option_map (part_over cs) (condition_part t)
 condition_over cs (number z) = refl
@@ -72,17 +70,6 @@ Some-unwrap_or (Some y) x h = refl
 pub None-is_some : {A : Type 0} (o : Option A) → is_some o ≡ false → None ≡ o
 None-is_some None h = refl
 None-is_some (Some x) h = absurd (cc)
-
--- without a tree a part is false
-pub nothing-outcome : (part : Part) (p : List ℤ) (s : CellsOf) → Value (pos 0) ≡ part_outcome p (unwrap_or (part_of part nothing) (at_point (number (pos 0)))) s
-nothing-outcome Condition p s = refl
-nothing-outcome (Field f) p s = refl
-nothing-outcome (CondenserCondition f) p s = refl
-nothing-outcome (CondenserValue f) p s = refl
-
--- what stands in the tree is what is there over coverages
-pub part-there : (cs : List ℕ) (part : Part) (t : CombinationTree) (x : PartTree) → Some x ≡ part_of part t → part_over cs x ≡ unwrap_or (part_of part (over cs (Some t))) (at_point (number (pos 0)))
-part-there cs part t x h = ap (λ o. unwrap_or o (at_point (number (pos 0)))) (ap (option_map (part_over cs)) h ∙ sym (part_of-over cs part t))
 
 -- whether there is a part is read off the tree
 pub there-over : (cs : List ℕ) (part : Part) (t : CombinationTree) → is_some (part_of part (over cs (Some t))) ≡ is_some (part_of part t)

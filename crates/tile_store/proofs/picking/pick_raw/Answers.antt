@@ -4,7 +4,7 @@ use Rattle.block_file.specs.State.{BlocksState}
 use Rattle.file_bytes.specs.declared.form.Form.TheVariants.{Raw}
 use Rattle.tile_store.specs.Picking.{cells_as}
 use Rattle.run_tile.proofs.Picks.{picked-all}
-use Rattle.tile_store.proofs.Picks.{entry_moved, last_moved, lacks_moved, lacks_one, picks_more}
+use Rattle.tile_store.proofs.Picks.{entry_moved, last_moved, picks_more}
 use Rattle.tile_store.proofs.Takes.{reads_then, refuses_as}
 use Rattle.tile_store.proofs.picking.pick_raw.Goals as goal
 
