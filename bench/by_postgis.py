@@ -1,8 +1,8 @@
 """PostGIS raster over the layers of layers.py, for the queries of queries.py.
 
-A cluster of PostgreSQL is made in a temporary folder, listens on a socket there alone, and is ended at last. Each layer is a
-table of tiles of 64 x 64 cells, indexed by place, as raster2pgsql makes them. One backend does all work of a query. Needs
-Debian's packages postgresql and postgresql-15-postgis-3, or those of another version.
+A cluster of PostgreSQL is made in a temporary folder, listens on a socket there alone, and is ended at last. Each layer
+is a table of tiles of 64 x 64 cells, indexed by place, as raster2pgsql makes them. One backend does all work of a
+query. Needs Debian's packages postgresql and postgresql-15-postgis-3, or those of another version.
 """
 import contextlib
 import glob
@@ -114,7 +114,8 @@ QUERIES = {
 
 
 def tiles(cells, side):
-    """The rasters of a square corner of a layer, as PostGIS writes their bytes: where each lies, and its cells of i16."""
+    """The rasters of a square corner of a layer, as PostGIS writes their bytes: where each lies, and its cells of
+    i16."""
     for top in range(0, side, TILE):
         for left in range(0, side, TILE):
             rows, columns = min(TILE, side - top), min(TILE, side - left)

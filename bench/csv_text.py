@@ -3,10 +3,10 @@
 
 usage: bench/csv_text.py [WORD..]    only the lines that have one of these words
 
-The cells are one number, noise of 16 bits, noise of 62 bits, and truth values. One loop in C prints each cell by sprintf,
-the other writes the digits by itself; both write into memory that was taken before, and are compiled here by cc -O2. The
-figure is the processor time that one more text takes, the least of several, so that starting and making the cells do not
-count; the programs take turns. `rt run` in crates/bench builds the program.
+The cells are one number, noise of 16 bits, noise of 62 bits, and truth values. One loop in C prints each cell by
+sprintf, the other writes the digits by itself; both write into memory that was taken before, and are compiled here by
+cc -O2. The figure is the processor time that one more text takes, the least of several, so that starting and making the
+cells do not count; the programs take turns. `rt run` in crates/bench builds the program.
 """
 import os
 import sys
@@ -82,4 +82,5 @@ def main():
             )
 
 
-main()
+if __name__ == "__main__":
+    main()

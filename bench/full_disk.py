@@ -6,8 +6,8 @@ usage: bench/full_disk.py PROGRAM
 Each session inserts five coverages of 2,000 cells of i64 and writes all their cells, so that the file would take 22
 blocks. It runs with a limit on the size of its files, at 56 places from 8 KiB to 64 KiB at and around the bounds of
 blocks; the signal of that limit is ignored, so that the system cuts a write short and then refuses it, as a full disk
-does. Where the session ends with status 0, the next run, without a limit, has to find each coverage whose insertion
-was answered with ok, and in it the cells of each update that was; any other session has all replies, and ends as one that
+does. Where the session ends with status 0, the next run, without a limit, has to find each coverage whose insertion was
+answered with ok, and in it the cells of each update that was; any other session has all replies, and ends as one that
 was not closed for a disk fault. Prints how the sessions ended, and ends with status 1 where something was lost.
 """
 import os

@@ -3,11 +3,11 @@
 
 usage: bench/jobs.py
 
-Starts the program on an empty store. One client submits a job of 200 units and steps it by one unit a request, each on a
-connection of its own, while another writes and asks a small coverage, and writes the one that the job reads, each on
+Starts the program on an empty store. One client submits a job of 200 units and steps it by one unit a request, each on
+a connection of its own, while another writes and asks a small coverage, and writes the one that the job reads, each on
 connections of its own too. Every answer is compared with what it has to be: the job's with that of its query before all
-writes. Prints how long a step took, and what the other client waited, beside the same requests without a job and beside the
-query in one request. `rt run` in crates/rasterd builds the program.
+writes. Prints how long a step took, and what the other client waited, beside the same requests without a job and beside
+the query in one request. `rt run` in crates/rasterd builds the program.
 """
 import os
 import statistics

@@ -224,4 +224,5 @@ def main():
             print(f"{' '.join(case):33}{times}{ratios}", flush=True)
 
 
-main()
+if __name__ == "__main__":
+    main()

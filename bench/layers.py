@@ -1,8 +1,9 @@
-"""A store with three layers of 4,096 x 4,096 cells of i16, which benchmarks share, and a connection to the program over it.
+"""A store with three layers of 4,096 x 4,096 cells of i16, which benchmarks share, and a connection to the program over
+it.
 
-The layers are noise; terrain, in runs of about three cells; and land cover of 16 kinds, in runs of about twenty. They are
-made by queries.c with a fixed seed and written by UpdateCoverage into bench/out/layers.store, which is kept for the next run.
-Beside them stand corners of them, as coverages of their own, for templates, which go over whole coverages.
+The layers are noise; terrain, in runs of about three cells; and land cover of 16 kinds, in runs of about twenty. They
+are made by queries.c with a fixed seed and written by UpdateCoverage into bench/out/layers.store, which is kept for the
+next run. Beside them stand corners of them, as coverages of their own, for templates, which go over whole coverages.
 """
 import array
 import os
@@ -62,10 +63,12 @@ class Connection:
         """The bodies of the replies to messages that are sent together, or the body where there is one."""
         timer = threading.Timer(LONGEST, self.process.kill)
         timer.start()
-        self.messages.write(b"".join(requests))
-        self.messages.flush()
-        bodies = [self.reply() for _ in requests]
-        timer.cancel()
+        try:
+            self.messages.write(b"".join(requests))
+            self.messages.flush()
+            bodies = [self.reply() for _ in requests]
+        finally:
+            timer.cancel()
         return bodies[0] if len(bodies) == 1 else bodies
 
     def spent(self):

@@ -3,11 +3,11 @@
 
 usage: bench/messages.py [CONNECTIONS, else 2000]
 
-The server is the built program over an empty store in memory (`rt run` in crates/rasterd builds it). A connection has 500
-messages, each a list of coverages asked by GET or by POST; another connection follows at once. The server in C, echo.c, accepts
-the same connections, reads 16,384 bytes at a time, looks for the blank line behind each head, passes over the body and
-writes the same bytes as the program, in one write a message. A client in this process sends all messages of a connection,
-then reads to its end.
+The server is the built program over an empty store in memory (`rt run` in crates/rasterd builds it). A connection has
+500 messages, each a list of coverages asked by GET or by POST; another connection follows at once. The server in C,
+echo.c, accepts the same connections, reads 16,384 bytes at a time, looks for the blank line behind each head, passes
+over the body and writes the same bytes as the program, in one write a message. A client in this process sends all
+messages of a connection, then reads to its end.
 
 The figures are by the clock, of what the client waits for, and by the processor time of each server, each the least of
 seven runs that take turns.
@@ -83,4 +83,5 @@ def main():
                 print(f"{kind:5}{by:9}{total / ours:20,.0f}{total / plain:20,.0f}{ours / plain:10.2f}")
 
 
-main()
+if __name__ == "__main__":
+    main()

@@ -3,12 +3,13 @@
 
 usage: bench/nginx.py [SECONDS]
 
-Starts, in a fresh folder and on free ports of this machine, a server that writes, four on copies of its closed file, each
-by deploy/serve, and nginx with a certificate of its own making and a password. It compares replies over TLS, with and
-without the password, with it for another site's page, from 64 clients at once, and over a run's end; asks 200 jobs by four
-clients at once, each at the path of one server, all four at one path, and at that by address; and then counts for so many
-seconds (5) how many requests of 16 clients are answered where one server reads and where four do. Ends with status 1 where
-a reply was wrong. It needs nginx (`apt-get install nginx`), openssl and curl; `rt run` in crates/rasterd builds the program.
+Starts, in a fresh folder and on free ports of this machine, a server that writes, four on copies of its closed file,
+each by deploy/serve, and nginx with a certificate of its own making and a password. It compares replies over TLS, with
+and without the password, with it for another site's page, from 64 clients at once, and over a run's end; asks 200 jobs
+by four clients at once, each at the path of one server, all four at one path, and at that by address; and then counts
+for so many seconds (5) how many requests of 16 clients are answered where one server reads and where four do. Ends with
+status 1 where a reply was wrong. It needs nginx (`apt-get install nginx`), openssl and curl; `rt run` in crates/rasterd
+builds the program.
 """
 import base64
 import collections
@@ -144,15 +145,16 @@ def fill(site):
     same(site.ask("/edit/ows", insert, PASSWORD), (200, "ok\n"))
     update = f"request=UpdateCoverage&coverage=lai&field=v&box=x(0:{SIDE - 1}),y(0:{SIDE - 1})&fill=1"
     same(site.ask("/edit/ows", "", PASSWORD, update), (200, "ok\n"))
-    # 300 requests, 16 at once, over the ends of runs of 50 connections: each is answered, where a client that is told 502
-    # asks again.
+    # 300 requests, 16 at once, over the ends of runs of 50 connections: each is answered, where a client that is told
+    # 502 asks again.
     with concurrent.futures.ThreadPoolExecutor(16) as pool:
         for found in pool.map(lambda _: ask_again(site, "/edit/ows", LIST, PASSWORD), range(300)):
             same(found, (200, "lai\n"))
 
 
 def jobs(site, paths):
-    """What became of 50 jobs of each of some clients at once, each at its path, counted; no two clients ask the same."""
+    """What became of 50 jobs of each of some clients at once, each at its path, counted; no two clients ask the
+    same."""
 
     def one(number, path):
         told, session = collections.Counter(), site.session(path)

@@ -3,8 +3,8 @@
 
 usage: bench/numpy_server.py LOOPS    LOOPS is queries.c, compiled
 
-A path is an operation and its operands: names of arrays, and numbers. The answer is a number or CSV. It prints the port of
-loopback that it listens at. Needs Debian's package python3-numpy.
+A path is an operation and its operands: names of arrays, and numbers. The answer is a number or CSV. It prints the port
+of loopback that it listens at. Needs Debian's package python3-numpy.
 """
 import functools
 import http.server
@@ -130,4 +130,5 @@ def main():
         server.serve_forever()
 
 
-main()
+if __name__ == "__main__":
+    main()

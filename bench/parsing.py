@@ -1,6 +1,6 @@
 #!/usr/bin/env python3
-"""Seconds and bytes a second for reading queries of 65,536 bytes, each beside a loop in C that sorts the same bytes into
-classes.
+"""Seconds and bytes a second for reading queries of 65,536 bytes, each beside a loop in C that sorts the same bytes
+into classes.
 
 usage: bench/parsing.py [the program, else crates/bench/out/bench]
 
@@ -76,4 +76,5 @@ def main():
             print(f"{name:40} {found:10} {once * 1e3:8.2f} {len(text) / once / 1e6:8.1f} {once / loop:8.1f}")
 
 
-main()
+if __name__ == "__main__":
+    main()

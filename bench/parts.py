@@ -3,11 +3,11 @@
 
     bench/parts.py PROGRAM
 
-The raster is cut over the servers, each on a store in memory, and a cluster of dask with four processes asks. Seconds with one
-server, two and four, the least of three rounds in which the three take turns, and in brackets the processor time of the server
-that was busiest, which does not depend on what else the machine does. Each answer is compared with numpy's. At the end
-the time that each of 1,024 small parts takes, which is that of a request and of a task of dask. It needs Debian's packages
-python3-numpy, python3-xarray, python3-dask and python3-distributed.
+The raster is cut over the servers, each on a store in memory, and a cluster of dask with four processes asks. Seconds
+with one server, two and four, the least of three rounds in which the three take turns, and in brackets the processor
+time of the server that was busiest, which does not depend on what else the machine does. Each answer is compared with
+numpy's. At the end the time that each of 1,024 small parts takes, which is that of a request and of a task of dask. It
+needs Debian's packages python3-numpy, python3-xarray, python3-dask and python3-distributed.
 """
 
 import contextlib
@@ -17,8 +17,7 @@ import time
 
 sys.dont_write_bytecode = True
 TOP = os.path.dirname(os.path.dirname(os.path.abspath(__file__)))
-# in place of this folder, whose typing.py is not that of the standard library
-sys.path[:1] = [f"{TOP}/clients/python", f"{TOP}/scripts"]
+sys.path[:0] = [f"{TOP}/clients/python", f"{TOP}/scripts"]
 os.environ["PYTHONPATH"] = f"{TOP}/clients/python"
 try:
     import distributed
@@ -69,7 +68,8 @@ def spent(processes):
 
 
 def taken(work, raster, wanted, processes=()):
-    """The seconds that a work takes, whose answer is the one that is wanted, and the most processor seconds of a server."""
+    """The seconds that a work takes, whose answer is the one that is wanted, and the most processor seconds of a
+    server."""
     began, before = time.perf_counter(), spent(processes)
     found = work(raster)
     seconds, after = time.perf_counter() - began, spent(processes)

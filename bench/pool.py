@@ -3,12 +3,12 @@
 
 usage: bench/pool.py FILE [TIMES, else 9]
 
-The actions are those of crates/bench, which `rt run` in its folder builds, on a grid of noise, whose tiles fill four
-blocks each: windows and numbers at twelve places, each asked again and again (again, point); windows and numbers at
-scattered places of a grid of 4,096 blocks, and the whole of it (window, cell, read); a number written, and the whole
-written, in a grid of 1,024 blocks (put, values). The figure is what one more round takes of the processor, the least of
-so many runs; the runs with and without a pool take turns. FILE is made anew for
-each run, and is gone afterwards: it must not be there before.
+The actions are those of crates/bench, which `rt run` in its folder builds, on a grid of noise, whose tiles fill two
+blocks each, which are read past the pages where they follow one another: windows and numbers at twelve places of a grid
+of 512 blocks, each asked again and again (again, point); windows and numbers at scattered places of a grid of 2,048
+blocks, and the whole of it (window, cell, read); a number written, and the whole written, in a grid of 512 blocks (put,
+values). The figure is what one more round takes of the processor, the least of so many runs; the runs with and without
+a pool take turns. FILE is made anew for each run, and is gone afterwards: it must not be there before.
 """
 import os
 import sys
@@ -56,7 +56,7 @@ def main():
     print(f"{'a round':8} {'blocks':>6} {'without':>14} {'with a pool':>14} {'ratio':>7}")
     for action, side, rounds in ACTIONS:
         without, pooled = one_more(path, action, side, rounds, times)
-        blocks = (side // 64) ** 2 * 4
+        blocks = (side // 64) ** 2 * 2
         print(
             f"{action:8} {blocks:6} {without * 1e6:11.1f} us {pooled * 1e6:11.1f} us {pooled / without:7.2f}",
             flush=True,
@@ -64,4 +64,5 @@ def main():
     os.remove(path)
 
 
-main()
+if __name__ == "__main__":
+    main()

@@ -3,19 +3,20 @@
 
 usage: bench/queries.py [--again] [--beside] [WORD..]    only the rows that have all of these words
 
-The queries go to the built program over the store of layers.py, through a pipe. The time is that which the program is on a
-processor from the query to the end of its reply; the loops of queries.c read cells of 16 bits in memory and write their own
-digits; they are compiled here by cc -O3, and their times are processor time too. A query and its loop take turns, and both
-times are medians of nine or more. Small requests go over one connection on loopback, by turns with those to a server in C,
-echo.c, that finds the end of a message and writes the same reply. Each reply is compared with what the loop printed. The
-second column is what the program has had of memory at most until then. The aim is how many times C's time a query is to take
-at most, or how many times another row's, where that is printed too; the last lines say which aims were missed. Behind the
-queries stand small requests, and what a store of as many tiles as a file of 4 GiB has room for takes to open and to close.
+The queries go to the built program over the store of layers.py, through a pipe. The time is that which the program is
+on a processor from the query to the end of its reply; the loops of queries.c read cells of 16 bits in memory and write
+their own digits; they are compiled here by cc -O3, and their times are processor time too. A query and its loop take
+turns, and both times are medians of nine or more. Small requests go over one connection on loopback, by turns with
+those to a server in C, echo.c, that finds the end of a message and writes the same reply. Each reply is compared with
+what the loop printed. The second column is what the program has had of memory at most until then. The aim is how many
+times C's time a query is to take at most, or how many times another row's, where that is printed too; the last lines
+say which aims were missed. Behind the queries stand small requests, and what a store of as many tiles as a file of 4
+GiB has room for takes to open and to close.
 
-With --beside the same is asked of PostGIS raster (by_postgis.py) and of numpy behind a small HTTP server (by_numpy.py), each
-where it is installed, and their processor times stand in columns of their own: that of the backend, and that of the server. A
-dash is where one has no reasonable form. `rt run` in crates/rasterd builds the program; SERVER names another one. With --again
-the store is made anew. bench/submissions.py has what jobs take.
+With --beside the same is asked of PostGIS raster (by_postgis.py) and of numpy behind a small HTTP server (by_numpy.py),
+each where it is installed, and their processor times stand in columns of their own: that of the backend, and that of
+the server. A dash is where one has no reasonable form. `rt run` in crates/rasterd builds the program; SERVER names
+another one. With --again the store is made anew. bench/submissions.py has what jobs take.
 """
 import contextlib
 import os
@@ -188,8 +189,8 @@ def asked(session, request, wanted, together=1):
 
 
 def medians(loops, loop, turns, text):
-    """The medians of the seconds of the first request, of the loop in C and of the other requests, which take turns nine
-    times, or more often where the first is quick. Each of the turns is whom it is asked of, and a request."""
+    """The medians of the seconds of the first request, of the loop in C and of the other requests, which take turns
+    nine times, or more often where the first is quick. Each of the turns is whom it is asked of, and a request."""
     first, *behind = turns
     rounds, begun = [], time.monotonic()
     while len(rounds) < 9 or (len(rounds) < 50 and sum(it[0] for it in rounds) < 0.1):
@@ -272,7 +273,8 @@ def beside_many(table):
 
 
 def opened_and_closed(table):
-    """A store of as many tiles of one block as there can be: the seconds to open it, with its first query, and to close."""
+    """A store of as many tiles of one block as there can be: the seconds to open it, with its first query, and to
+    close."""
     path, filler = f"{FOLDER}/most.store", Filler(16, 1)
     filler.write(path)
     with Session(path) as session:
@@ -332,4 +334,5 @@ def main():
         table.end()
 
 
-main()
+if __name__ == "__main__":
+    main()

@@ -5,11 +5,11 @@ usage: bench/sockets.py PROGRAM [--silent]
 
 Each case starts the program on a port of its own and a file in a fresh folder, makes its connections, and compares the
 bytes that came back and the status with what they have to be: a client that has shut its writing side before it is
-accepted, 200 connections with three messages each, clients that go away in the middle of a reply or reset, 1,001 messages
-on one connection, a message that comes byte by byte, a second run on the same file, a port in use, deploy/serve that is
-stopped, and a second one on its file. With --silent also a client that says nothing, which is let go after 60 seconds: a
-time is looked at there, so that the gate leaves it out. Every wait has an end. Prints a line for each case, and ends
-with status 1 where one went wrong.
+accepted, 200 connections with three messages each, clients that go away in the middle of a reply or reset, 1,001
+messages on one connection, a message that comes byte by byte, a second run on the same file, a port in use,
+deploy/serve that is stopped, and a second one on its file. With --silent also a client that says nothing, which is let
+go after 60 seconds: a time is looked at there, so that the gate leaves it out. Every wait has an end. Prints a line for
+each case, and ends with status 1 where one went wrong.
 """
 import contextlib
 import os

@@ -12,8 +12,8 @@ window of 64 x 64 read and added, that crosses the edges of four tiles (window),
 machine does do not count.
 
 All but `fill` work on noise: hardly two neighbours are the same, so that tiles are written raw, and one of 4,096 cells
-fills two blocks. A grid of 4096 x 4096 cells then takes 32 MiB, as a plain array of i16 does. The loops in C work on such
-an array, and are compiled here by cc -O2.
+fills two blocks. A grid of 4096 x 4096 cells then takes 32 MiB, as a plain array of i16 does. The loops in C work on
+such an array, and are compiled here by cc -O2.
 """
 import os
 import sys
@@ -120,4 +120,5 @@ def main():
         print(f"{action:16} {taken * 1e6:9.1f} us {cells / taken:14,.0f} {cells / plain:14,.0f} {taken / plain:9.1f}")
 
 
-main()
+if __name__ == "__main__":
+    main()

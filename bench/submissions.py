@@ -3,9 +3,9 @@
 
 usage: bench/submissions.py
 
-The jobs are over a coverage of one cell, over one layer of the store of layers.py, over all three, and over as many tiles as a
-file of 4 GiB has blocks for: a submission copies the index of each coverage. The time is by the clock, at the client. `rt run` in
-crates/rasterd builds the program; SERVER names another one.
+The jobs are over a coverage of one cell, over one layer of the store of layers.py, over all three, and over as many
+tiles as a file of 4 GiB has blocks for: a submission copies the index of each coverage. The time is by the clock, at
+the client. `rt run` in crates/rasterd builds the program; SERVER names another one.
 """
 import os
 import statistics
@@ -86,4 +86,5 @@ def main():
     over_the_most_tiles()
 
 
-main()
+if __name__ == "__main__":
+    main()

@@ -4,10 +4,10 @@
 usage: bench/tiles.py [WORD..]    only the lines that have all of these words
 
 The tiles are of one value, of runs of 64 cells, of runs of twenty and of three on the average, and of noise, each in
-every type of a field. Both programs write a tile as runs, or raw where that takes fewer bytes, and both find when they read a
-raw tile that its runs would be longer. The figure is the processor time that one more call takes, the least of several, so that starting
-and making the cells do not count; the two programs take turns. The loops in C write and read the same runs, and are
-compiled here by cc -O2 with its vectors. `rt run` in crates/bench builds the program.
+every type of a field. Both programs write a tile as runs, or raw where that takes fewer bytes, and both find when they
+read a raw tile that its runs would be longer. The figure is the processor time that one more call takes, the least of
+several, so that starting and making the cells do not count; the two programs take turns. The loops in C write and read
+the same runs, and are compiled here by cc -O2 with its vectors. `rt run` in crates/bench builds the program.
 """
 import os
 import sys
@@ -146,4 +146,5 @@ def main():
                 print(line, flush=True)
 
 
-main()
+if __name__ == "__main__":
+    main()

@@ -3,12 +3,12 @@
 
 usage: bench/worst.py [PROGRAM] [WORD..]    only the lines that have all of these words
 
-Three layers are written into a new file by UpdateCoverage: noise, 2,048 x 2,048 cells of i16 in runs of one cell; land, as many
-in runs of some twenty; and line, 2^20 cells of i64 on one axis in runs of one. They have 1,024, 1,024 and 256 tiles, of which
-the server keeps 64 decoded. Each query goes through a pipe to the built program over that file; the seconds are those that the
-server was on a processor, the least of two askings. The work of a query is counted by oracle/meaning.py; the last column says
-how many minutes 2^32 units of such work would take, which is the most that a query may have. A reply may be a fault, and no
-other refusal. `rt run` in crates/rasterd builds the program.
+Three layers are written into a new file by UpdateCoverage: noise, 2,048 x 2,048 cells of i16 in runs of one cell; land,
+as many in runs of some twenty; and line, 2^20 cells of i64 on one axis in runs of one. They have 1,024, 1,024 and 256
+tiles, of which the server keeps 64 decoded. Each query goes through a pipe to the built program over that file; the
+seconds are those that the server was on a processor, the least of two askings. The work of a query is counted by
+oracle/meaning.py; the last column says how many minutes 2^32 units of such work would take, which is the most that a
+query may have. A reply may be a fault, and no other refusal. `rt run` in crates/rasterd builds the program.
 """
 import os
 import random

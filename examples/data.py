@@ -1,4 +1,5 @@
-"""Three small rasters of a made-up district, the same at each run: a terrain in metres, land cover at two dates, and areas.
+"""Three small rasters of a made-up district, the same at each run: a terrain in metres, land cover at two dates, and
+areas.
 
 The classes of land cover are 1 water, 2 farmland, 3 forest, 4 settlement, 5 rock.
 """

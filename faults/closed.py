@@ -3,11 +3,12 @@
 
     faults/closed.py PROGRAM
 
-The system gives a file that is opened the least number that is free. Where standard input, output or error is closed at the
-start, that is the number of this stream: a store's file that got it would be written over by replies, or by the line that says
-why it was refused, and requests would be read from it. Each stream is closed in turn, and all of them, over a closed file and
-over one that a session left open, by `run` and by `listen`. Afterwards the file has to hold what it held, the open one has to be
-as it was, and the status has to be that of a run with its streams open. Ends with status 1 where one was otherwise.
+The system gives a file that is opened the least number that is free. Where standard input, output or error is closed at
+the start, that is the number of this stream: a store's file that got it would be written over by replies, or by the
+line that says why it was refused, and requests would be read from it. Each stream is closed in turn, and all of them,
+over a closed file and over one that a session left open, by `run` and by `listen`. Afterwards the file has to hold what
+it held, the open one has to be as it was, and the status has to be that of a run with its streams open. Ends with
+status 1 where one was otherwise.
 """
 
 import contextlib
@@ -88,4 +89,6 @@ def main(program):
 
 
 if __name__ == "__main__":
+    if len(sys.argv) < 2:
+        sys.exit(__doc__)
     sys.exit(main(*sys.argv[1:]))

@@ -1,14 +1,15 @@
 #!/usr/bin/env python3
-"""What a file is where the machine stops in the middle of a session: an experiment, since nothing is claimed of crashes.
+"""What a file is where the machine stops in the middle of a session: an experiment, since nothing is claimed of
+crashes.
 
     faults/crashes.py PROGRAM [IMAGES] [SEED]
 
-Sessions run on a new file and on one that was closed, and shim.c notes their writes. An image is the file as it was at the last
-sync before some place of a session, with any part of what was written from then up to that place: each write whole, not at all,
-or in some of its sectors of 512 bytes, the length of the file grown or not. IMAGES of them are made for each place, 12 where the
-number is left out. Each has to be refused as 95, or to be the store before the session or after it; and the program has to say
-of it what oracle/store.py says. A new file whose header was not written whole is 94; that is counted apart. Prints counts, and
-ends with status 1 where an image is something else.
+Sessions run on a new file and on one that was closed, and shim.c notes their writes. An image is the file as it was at
+the last sync before some place of a session, with any part of what was written from then up to that place: each write
+whole, not at all, or in some of its sectors of 512 bytes, the length of the file grown or not. IMAGES of them are made
+for each place, 12 where the number is left out. Each has to be refused as 95, or to be the store before the session or
+after it; and the program has to say of it what oracle/store.py says. A new file whose header was not written whole is
+94; that is counted apart. Prints counts, and ends with status 1 where an image is something else.
 """
 
 import collections
@@ -117,4 +118,6 @@ def main(program, times="12", seed="1"):
 
 
 if __name__ == "__main__":
+    if len(sys.argv) < 2:
+        sys.exit(__doc__)
     sys.exit(main(*sys.argv[1:]))

@@ -3,20 +3,21 @@
 
     faults/failing.py PROGRAM [WORD..]
 
-Over a small file the program is asked a script of messages: without a fault, and then once for each call and each fault of it,
-by the library of shim.c, which is loaded before the program. Words choose what is tried: `disk`, the calls on the file (EIO,
-ENOSPC, EINTR, half of the bytes moved, none, half and then EIO; from one call on half or EIO); `lies`, reads that give other
-bytes; `memory`, growths, one and forty in a row; `stream`, reads and writes of the connection; without one of these all are tried.
-`long` takes a script of 64 messages in place of one of ten, `plain` that of ten without its write between the steps of a job,
-`empty` an empty store in memory in place of the file (for `memory` alone). Numbers N and M take every Nth growth from the Mth on, all where they are left out.
+Over a small file the program is asked a script of messages: without a fault, and then once for each call and each fault
+of it, by the library of shim.c, which is loaded before the program. Words choose what is tried: `disk`, the calls on
+the file (EIO, ENOSPC, EINTR, half of the bytes moved, none, half and then EIO; from one call on half or EIO); `lies`,
+reads that give other bytes; `memory`, growths, one and forty in a row; `stream`, reads and writes of the connection;
+without one of these all are tried. `long` takes a script of 64 messages in place of one of ten, `plain` that of ten
+without its write between the steps of a job, `empty` an empty store in memory in place of the file (for `memory`
+alone). Numbers N and M take every Nth growth from the Mth on, all where they are left out.
 
-Each reply has to be that of oracle/machine.py, or 91 (90 for growths) and that one where the message is sent again. Where the
-opening is refused, the file opens again afterwards, unless the header was being written; where the close is, that is told; where
-it is not, the file holds the store. A failed read or write of the connection ends it, and the store holds what was answered.
-An interrupted read or write is made again, so that all replies come; where each call from one on is interrupted, the connection
-ends as by any fault. One growth alone that is refused at the close loses nothing, since the close is made once more, without
-the jobs and what is kept.
-Prints counts and what was wrong, and ends with status 1 where something was, or where the library cannot be loaded.
+Each reply has to be that of oracle/machine.py, or 91 (90 for growths) and that one where the message is sent again.
+Where the opening is refused, the file opens again afterwards, unless the header was being written; where the close is,
+that is told; where it is not, the file holds the store. A failed read or write of the connection ends it, and the store
+holds what was answered. An interrupted read or write is made again, so that all replies come; where each call from one
+on is interrupted, the connection ends as by any fault. One growth alone that is refused at the close loses nothing,
+since the close is made once more, without the jobs and what is kept. Prints counts and what was wrong, and ends with
+status 1 where something was, or where the library cannot be loaded.
 """
 
 import collections
@@ -118,9 +119,9 @@ class Trials:
         return machine
 
     def replies_under(self, what, run, allowed, faults, again):
-        """Asks the script, and a message again as often where a device's refusal came; one that stays refused has changed
-        nothing. There are no more of them than faults. What the store is to hold then, or nothing where the run did not
-        begin."""
+        """Asks the script, and a message again as often where a device's refusal came; one that stays refused has
+        changed nothing. There are no more of them than faults. What the store is to hold then, or nothing where the run
+        did not begin."""
         machine, came = self.machine(), 0
         for k, message in enumerate(self.messages):
             replies = [run.ask(message)]
@@ -196,7 +197,8 @@ class Trials:
                 self.fails("all of these", f"never told: {told}")
 
     def lies(self):
-        """Reads that give other bytes: the first is that of the header, and behind every other the whole script returns."""
+        """Reads that give other bytes: the first is that of the header, and behind every other the whole script
+        returns."""
         reads = [k for k, call in enumerate(self.calls, 1) if call[0] == "pread"]
         for k in reads:
             self.start()
@@ -218,8 +220,8 @@ class Trials:
             self.fails("all of these", "no growth was refused")
 
     def stream(self):
-        """A connection that moves its bytes by halves or one by one is served as ever; one whose call fails ends, after what
-        was answered."""
+        """A connection that moves its bytes by halves or one by one is served as ever; one whose call fails ends, after
+        what was answered."""
         self.tried("halves of the connection's bytes", "stream", 1, HALF, ALL)
         self.tried("single bytes of the connection", "stream", 1, ONE, ALL)
         machine = self.machine()
@@ -270,4 +272,6 @@ def main(program, *words):
 
 
 if __name__ == "__main__":
+    if len(sys.argv) < 2:
+        sys.exit(__doc__)
     sys.exit(main(*sys.argv[1:]))

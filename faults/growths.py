@@ -4,9 +4,9 @@
     faults/growths.py PROGRAM ROWS
 
 PROGRAM is the built program of server_tests, ROWS the file of its rows. It is given those from the line `# ---- Growths
-refused` up to the next section, under the library of shim.c: the program then arms the library for one growth after the other,
-and says on standard error of each row `growths` how often a script was played and what was refused. Without the library no
-growth is, and a script is played once.
+refused` up to the next section, under the library of shim.c: the program then arms the library for one growth after the
+other, and says on standard error of each row `growths` how often a script was played and what was refused. Without the
+library no growth is, and a script is played once.
 
 Prints what the program says, and ends with status 1 where a row differs, where of a row no growth was refused, or where
 the library cannot be loaded.
@@ -53,4 +53,6 @@ def main(program, rows):
 
 
 if __name__ == "__main__":
+    if len(sys.argv) < 3:
+        sys.exit(__doc__)
     sys.exit(main(*sys.argv[1:]))

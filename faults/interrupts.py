@@ -3,14 +3,15 @@
 
     faults/interrupts.py PROGRAM [CONNECTIONS]
 
-The first part sends SIGSTOP and SIGCONT to a server while a client writes and asks over loopback, so many connections one after
-the other, 200 where the number is left out, its messages in pieces with pauses. The system tells a call that it was interrupted,
-and the server makes it again: each connection has to get all of its replies, and the file has to hold each update.
+The first part sends SIGSTOP and SIGCONT to a server while a client writes and asks over loopback, so many connections
+one after the other, 200 where the number is left out, its messages in pieces with pauses. The system tells a call that
+it was interrupted, and the server makes it again: each connection has to get all of its replies, and the file has to
+hold each update.
 
-The second part has one server open a file, stops it between its reading of the header and its first write (by shim.c), and has a
-second one open the file. This one has to be refused as 91, and to leave the file as it is; the first goes on to its close, and
-the file has to hold what it wrote. A server that comes behind the first one's first write is refused as well, and one that comes
-after its close opens the file.
+The second part has one server open a file, stops it between its reading of the header and its first write (by shim.c),
+and has a second one open the file. This one has to be refused as 91, and to leave the file as it is; the first goes on
+to its close, and the file has to hold what it wrote. A server that comes behind the first one's first write is refused
+as well, and one that comes after its close opens the file.
 
 Ends with status 1 where something was wrong, or where shim.c cannot be loaded.
 """
@@ -174,4 +175,6 @@ def main(program, connections="200"):
 
 
 if __name__ == "__main__":
+    if len(sys.argv) < 2:
+        sys.exit(__doc__)
     sys.exit(main(*sys.argv[1:]))

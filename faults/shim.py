@@ -94,7 +94,8 @@ class Run:
 
 
 def calls(log):
-    """Of a run's log each call on the file, as (what, where, how many bytes, the bytes of a write), and the numbers of calls."""
+    """Of a run's log each call on the file, as (what, where, how many bytes, the bytes of a write), and the numbers of
+    calls."""
     with open(log, "rb") as file:
         data = file.read()
     found, numbers = [], {}

@@ -3,10 +3,10 @@
 
     faults/stack.py PROGRAM
 
-Each text is at a limit of the grammar, or far beyond one: brackets, words `condense` and `coverage`, operators of all ranks
-between them, the height of the tree, chains of operators and fields over all 65,536 bytes of a query. It is asked under limits
-of the stack until the least is found under which it is answered. Prints it in KiB with the reply, and ends with status 1 where a
-text is not answered under 6 MiB; the system gives 8 MiB where nothing is said.
+Each text is at a limit of the grammar, or far beyond one: brackets, words `condense` and `coverage`, operators of all
+ranks between them, the height of the tree, chains of operators and fields over all 65,536 bytes of a query. It is asked
+under limits of the stack until the least is found under which it is answered. Prints it in KiB with the reply, and ends
+with status 1 where a text is not answered under 6 MiB; the system gives 8 MiB where nothing is said.
 """
 
 import os
@@ -87,4 +87,6 @@ def main(program):
 
 
 if __name__ == "__main__":
+    if len(sys.argv) < 2:
+        sys.exit(__doc__)
     sys.exit(main(*sys.argv[1:]))

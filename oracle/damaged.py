@@ -3,16 +3,16 @@
 
     oracle/damaged.py PROGRAM [SESSIONS] [SEED]
 
-A session makes coverages in a file, in half of the cases such as span tiles. Then some bytes in the blocks of some tiles are
-rewritten, so that these are no longer tiles, and messages are asked over the file: queries of all forms and of single tiles,
-templates, jobs that are submitted, stepped by turns, fetched and cancelled, updates, of whole tiles among them, deletions and
-insertions. At last the file is read; at times it is damaged once more and asked again.
+A session makes coverages in a file, in half of the cases such as span tiles. Then some bytes in the blocks of some
+tiles are rewritten, so that these are no longer tiles, and messages are asked over the file: queries of all forms and
+of single tiles, templates, jobs that are submitted, stepped by turns, fetched and cancelled, updates, of whole tiles
+among them, deletions and insertions. At last the file is read; at times it is damaged once more and asked again.
 
-A reply is the one of the reading, or `93 Damaged` where that may come: for a query, a template or a step of a job with units
-left where a coverage that it names has a damaged tile, for a job as it was at its submission; for an update where its box
-meets a damaged tile and does not cover it. It has to come for such an update, and for a query that needs a cell of a damaged
-tile. Then store and jobs stay as they are, and so do the bytes of a damaged tile, until it is written whole. The first session
-with a difference is shown; at the end stands how often what came.
+A reply is the one of the reading, or `93 Damaged` where that may come: for a query, a template or a step of a job with
+units left where a coverage that it names has a damaged tile, for a job as it was at its submission; for an update where
+its box meets a damaged tile and does not cover it. It has to come for such an update, and for a query that needs a cell
+of a damaged tile. Then store and jobs stay as they are, and so do the bytes of a damaged tile, until it is written
+whole. The first session with a difference is shown; at the end stands how often what came.
 """
 
 import collections
@@ -95,8 +95,8 @@ def shown(coverages):
 
 
 class Beside(Machine):
-    """The machine beside damaged tiles. `came` is the body of the reply that came, by which it is known whether a step was
-    refused; `may` says of the last request whether damage may be told in the place of its reply."""
+    """The machine beside damaged tiles. `came` is the body of the reply that came, by which it is known whether a step
+    was refused; `may` says of the last request whether damage may be told in the place of its reply."""
 
     def __init__(self, units, coverages):
         super().__init__(units)
@@ -161,7 +161,8 @@ class Asking(sessions.Session):
     """Messages by chance over coverages that are there."""
 
     def message_of(self, pairs):
-        """The message of pairs; a list in place of one whose body is too long, behind which no message would be read."""
+        """The message of pairs; a list in place of one whose body is too long, behind which no message would be
+        read."""
         message = posted(pairs)
         if len(message) > MOST_BYTES:
             message = posted([("request", "ListCoverages")])
@@ -305,4 +306,6 @@ def main(program, number="1000", seed="1"):
 
 
 if __name__ == "__main__":
+    if len(sys.argv) < 2:
+        sys.exit(__doc__)
     sys.exit(main(*sys.argv[1:]))

@@ -41,7 +41,8 @@ def csv_of(cells, line):
 
 
 class Asks:
-    """Messages over a store, `made`, each with the body of its reply; and what the store is after them, as `known` tells it."""
+    """Messages over a store, `made`, each with the body of its reply; and what the store is after them, as `known`
+    tells it."""
 
     DAMAGED = "refused 93 Damaged\n"
 

@@ -3,13 +3,15 @@
 
     oracle/fuzz.py PROGRAM [SECONDS] [SEED]
 
-Inputs are made from the seed for so many seconds, 60 where they are left out, or for ever where they are 0. A stream is a
-session of oracle/sessions.py whose bytes are changed; its replies have to be those of oracle/machine.py. A query's tokens are
-changed; it is asked over a few coverages, at times as a job. A file is one that a session left; it is changed, and has to open
-to what oracle/store.py reads in it, tile by tile, also after an update and a close, or to be refused by that number and stay as
-it is. Each run of the program has to end by itself, within so much processor time and so much memory. What was found is told
-by the name of its input, as 7.123, by which alone it is made again: oracle/fuzz.py PROGRAM 0 7.123. Where a query's work is
-more than this reading counts up to, it has to be answered by a value or a fault; where it is far more, the input is left out.
+Inputs are made from the seed for so many seconds, 60 where they are left out, or for ever where they are 0. A stream is
+a session of oracle/sessions.py whose bytes are changed; its replies have to be those of oracle/machine.py. A query's
+tokens are changed; it is asked over a few coverages, at times as a job. A file is one that a session left; it is
+changed, and has to open to what oracle/store.py reads in it, tile by tile, also after an update and a close, or to be
+refused by that number and stay as it is. Each run of the program has to end by itself, within so much processor time
+and so much memory. What was found is told by the name of its input, as 7.123, by which alone it is made again:
+oracle/fuzz.py PROGRAM 0 7.123. Where a query's work is more than this reading counts up to, it has to be answered by a
+value or a fault; where it is far more, the input is left out. Ends with status 1 where something was found, or where no
+input was compared.
 """
 
 import collections
@@ -23,13 +25,12 @@ import time
 
 sys.dont_write_bytecode = True
 
-import meaning
 import sessions
 import store
 from files import Asks, content_of, posted, replies_in
-from language import Refused
+from language import Refused, parsed
 from machine import Machine, interval_in, listed_in, served
-from meaning import count
+from meaning import Fault, answer_of, combinations, count, work_of
 from mutants import Queries, Streams
 from runs import Runs
 from spoilt import Files
@@ -37,26 +38,23 @@ from spoilt import Files
 # the most work that is counted here, and the most that is asked; the most points of a domain
 MOST_COUNTED, MOST_ASKED, MOST_POINTS = 40_000, 5_000_000, 50_000
 UNKNOWN = "?"
-COUNTED = meaning.answer_of
 
 
 class Beyond(Exception):
     """An input that would take this reading, or the program, too long."""
 
 
-def answer_of(found):
-    """The CSV of a query, by its combinations; `UNKNOWN` where that is much work; or a fault."""
-    work = meaning.work_of(found)
-    if work > MOST_ASKED:
-        raise Beyond
-    return UNKNOWN if work > MOST_COUNTED else COUNTED(found)
-
-
-meaning.answer_of = answer_of
-
-
 class Bounded(Machine):
-    """The machine, which writes boxes of moderate size, and has of a large coverage the cells alone that were written."""
+    """The machine, which does moderate work for a query, writes boxes of moderate size, and has of a large coverage the
+    cells alone that were written."""
+
+    def answered(self, query, coverages):
+        """The CSV of a query over a store; `UNKNOWN` where that is much work; or a fault."""
+        found = combinations(parsed(query), coverages)
+        work = work_of(found)
+        if work > MOST_ASKED:
+            raise Beyond
+        return UNKNOWN if work > MOST_COUNTED else answer_of(found)
 
     def cells(self, axes, kind):
         if count(axes) <= MOST_POINTS:
@@ -74,8 +72,8 @@ class Bounded(Machine):
         """The steps of a job take as long as its query does, whether its answer is fetched or not."""
         reply = super().SubmitQuery()
         job = self.jobs[self.next - 1]
-        with contextlib.suppress(meaning.Fault):
-            meaning.answer(job.query, job.store)
+        with contextlib.suppress(Fault):
+            self.answered(job.query, job.store)
         return reply
 
 
@@ -154,7 +152,8 @@ class Fuzz:
         )
 
     def filled(self):
-        """A session with two coverages that are written, in half of the cases such as span tiles, and its messages so far."""
+        """A session with two coverages that are written, in half of the cases such as span tiles, and its messages so
+        far."""
         made, stream = sessions.Session(self.chance), b""
         made.machine = machine = Bounded()
         made.texts.store = machine.store
@@ -211,7 +210,7 @@ class Fuzz:
         try:
             found = store.read(data)
         except Refused as refusal:
-            line = f"not opened: {refusal.number} {FILE_REFUSALS[refusal.number]}\n".encode()
+            line = f"not opened: {refusal.number} {store.FILE_REFUSALS[refusal.number]}\n".encode()
             run = self.ran(name, LIST)
             self.counted(f"files refused as {refusal.number}")
             if self.ended(name, run, (3, line)) and (run.out or content_of(self.path) != data):
@@ -236,7 +235,6 @@ class Fuzz:
             self.wrong(name, "a file that holds another store after its close")
 
 
-FILE_REFUSALS = {93: "Damaged", 94: "NotAStore", 95: "NotClosed"}
 LIST = b"GET /ows?request=ListCoverages HTTP/1.1\r\n\r\n"
 
 
@@ -259,8 +257,13 @@ def main(program, seconds="60", seed="1"):
         f"{len(fuzz.found)} found; at most {seconds:.2f} processor seconds, by {slowest}, and {kib} KiB, by {largest};"
     )
     print("of those that were left out at most {:.2f} processor seconds, by {}".format(*fuzz.left_out))
-    return 1 if fuzz.found else 0
+    compared = sum(fuzz.counts.values()) - fuzz.counts["left out"]
+    if not compared:
+        print("no input was compared")
+    return 1 if fuzz.found or not compared else 0
 
 
 if __name__ == "__main__":
+    if len(sys.argv) < 2:
+        sys.exit(__doc__)
     sys.exit(main(*sys.argv[1:]))

@@ -23,7 +23,8 @@ DEPTH_OF_CALLS = 20000
 
 
 class Deep(contextlib.ContextDecorator):
-    """Calls may go as deep as a reader's while anyone is inside, in whatever thread, and as deep as before once nobody is."""
+    """Calls may go as deep as a reader's while anyone is inside, in whatever thread, and as deep as before once nobody
+    is."""
 
     def __init__(self):
         self.lock, self.inside, self.before = threading.Lock(), 0, 0
@@ -55,7 +56,8 @@ class Refused(Exception):
 
 @dataclass
 class Token:
-    """A word (a name without `$` that is no keyword), a keyword, a variable with `$`, a number, a string or a symbol."""
+    """A word (a name without `$` that is no keyword), a keyword, a variable with `$`, a number, a string or a
+    symbol."""
 
     kind: str
     value: object

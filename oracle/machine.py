@@ -114,9 +114,9 @@ class Job:
 
 
 class Machine:
-    """Coverages by name, and jobs by number. A coverage is never changed in place: a write puts another one under its name, so
-    that a job keeps the store of its submission. Which units a job has is the server's choice: `units` has that of each
-    number, and where it has none, or more than there may be, it is one."""
+    """Coverages by name, and jobs by number. A coverage is never changed in place: a write puts another one under its
+    name, so that a job keeps the store of its submission. Which units a job has is the server's choice: `units` has
+    that of each number, and where it has none, or more than there may be, it is one."""
 
     def __init__(self, units=None):
         self.store, self.jobs, self.next, self.units = {}, {}, 1, units or {}

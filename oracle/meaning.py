@@ -1,5 +1,5 @@
-"""Types, work and values, read from their description: an expression becomes its shape, its work, and a function of a field,
-of the numbers of the iterators and of a point. A fault is an exception, so the first one that is met stands."""
+"""Types, work and values, read from their description: an expression becomes its shape, its work, and a function of a
+field, of the numbers of the iterators and of a point. A fault is an exception, so the first one that is met stands."""
 
 import itertools
 import math
@@ -23,7 +23,8 @@ class Fault(Exception):
 
 @dataclass
 class Typed:
-    """Axes as (name, lo, hi), fields as (name or None, whether it is Boolean), the work of each field, and the value."""
+    """Axes as (name, lo, hi), fields as (name or None, whether it is Boolean), the work of each field, and the
+    value."""
 
     axes: list
     fields: list
@@ -366,7 +367,8 @@ def answer(text, store):
 
 
 def submitted(text, store):
-    """Of a query that is to be a job: the names in its `for` list, and the most units that it may have; or a refusal."""
+    """Of a query that is to be a job: the names in its `for` list, and the most units that it may have; or a
+    refusal."""
     query = parsed(text)
     found = combinations(query, store)
     names = {name for _, listed in query[0] for name in listed}

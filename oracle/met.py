@@ -1,4 +1,5 @@
-"""The machine, which counts what a session reaches: changes beside jobs, steps and answers behind them, wanting room."""
+"""The machine, which counts what a session reaches: changes beside jobs, steps and answers behind them, wanting
+room."""
 
 import collections
 

@@ -110,8 +110,8 @@ class Streams(Chance):
         )
 
     def grown(self, stream):
-        """A head about as long as it may be, or with about as many fields; a body about as long as it may be; about as many
-        messages as are answered, or jobs, axes and fields as there may be."""
+        """A head about as long as it may be, or with about as many fields; a body about as long as it may be; about as
+        many messages as are answered, or jobs, axes and fields as there may be."""
         kind = self.chance.randrange(5)
         end = stream.find(b"\r\n\r\n") + 2
         if kind == 0:

@@ -1,5 +1,5 @@
-"""The machine over a file of at most 2^20 blocks: which of them are in use, by the tiles of coverages and of what jobs keep, and
-which updates and insertions lack room. And a file that is nearly full."""
+"""The machine over a file of at most 2^20 blocks: which of them are in use, by the tiles of coverages and of what jobs
+keep, and which updates and insertions lack room. And a file that is nearly full."""
 
 import functools
 import itertools
@@ -75,7 +75,8 @@ class Filler:
         return struct.pack("<Q", len(self.signatures)) + self.signatures + struct.pack("<Q", len(index)) + index
 
     def write(self, path):
-        """Makes the file, whose metadata stands behind the coverage's blocks. No tile is written, since none is asked for."""
+        """Makes the file, whose metadata stands behind the coverage's blocks. No tile is written, since none is asked
+        for."""
         first, metadata = self.blocks + 1, self.metadata
         with open(path, "wb") as file:
             file.truncate(store.MOST_BLOCKS * store.BLOCK)
@@ -88,9 +89,10 @@ class Filler:
 
 
 class Roomy(Machine):
-    """The machine, which has the blocks of each listed tile by number: `indexes` those of the coverages by name, a list a
-    field, and `held` those of what a job keeps, by the job's number. A write takes new blocks for all tiles that meet its box
-    and are not 0 everywhere, and gives the old ones back afterwards; they are free where no job with units left keeps them.
+    """The machine, which has the blocks of each listed tile by number: `indexes` those of the coverages by name, a list
+    a field, and `held` those of what a job keeps, by the job's number. A write takes new blocks for all tiles that meet
+    its box and are not 0 everywhere, and gives the old ones back afterwards; they are free where no job with units left
+    keeps them.
     """
 
     def __init__(self, units=None, filler=None):

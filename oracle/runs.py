@@ -1,8 +1,8 @@
 """Runs of the program, each with its processor time and its memory.
 
-What a process took before it became the program counts as the program's, so a small process of its own starts each run. It
-takes a line with the program, its file and the length of a stream, and then the stream; it gives a line with the status, the
-seconds, the KiB and the lengths of what was written and told, and then these.
+What a process took before it became the program counts as the program's, so a small process of its own starts each run.
+It takes a line with the program, its file and the length of a stream, and then the stream; it gives a line with the
+status, the seconds, the KiB and the lengths of what was written and told, and then these.
 """
 
 import json
@@ -14,7 +14,8 @@ import sys
 import tempfile
 from typing import NamedTuple
 
-# the most that a run may take: processor seconds, and bytes of memory, the program itself included; and the most by the clock
+# the most that a run may take: processor seconds, and bytes of memory, the program itself included; and the most by the
+# clock
 MOST_SECONDS, MOST_MEMORY, MOST_WAITING = 10, 128 << 20, 600
 
 

@@ -3,12 +3,13 @@
 
     oracle/sessions.py PROGRAM [SESSIONS] [SEED]
 
-A session is one stream of messages over an empty store: coverages are made and written, described and deleted, queries of
-all forms and templates are asked, jobs submitted, stepped by turns, fetched and cancelled, some keys and texts are spoilt,
-bodies and pieces cut. Half of the sessions are about jobs: between their steps what they read is written, deleted and
-inserted anew. Some are over coverages in several tiles, a few have 64 jobs and more, some are parted into runs on a file, which
-is closed with jobs at hand and opened again, and some run on a file that is nearly full. The units of a job are the program's choice within their
-bounds. The first difference is shown; at the end stands how often what was reached.
+A session is one stream of messages over an empty store: coverages are made and written, described and deleted, queries
+of all forms and templates are asked, jobs submitted, stepped by turns, fetched and cancelled, some keys and texts are
+spoilt, bodies and pieces cut. Half of the sessions are about jobs: between their steps what they read is written,
+deleted and inserted anew. Some are over coverages in several tiles, a few have 64 jobs and more, some are parted into
+runs on a file, which is closed with jobs at hand and opened again, and some run on a file that is nearly full. The
+units of a job are the program's choice within their bounds. The first difference is shown; at the end stands how often
+what was reached.
 """
 
 import collections
@@ -220,7 +221,8 @@ class Session(Chance):
         )
 
     def spoilt(self, pairs):
-        """The pairs as a list, at times with one of them gone, doubled, with another key or value, or in another order."""
+        """The pairs as a list, at times with one of them gone, doubled, with another key or value, or in another
+        order."""
         found = list(pairs.items())
         if self.one_in(4):
             self.chance.shuffle(found)
@@ -241,7 +243,8 @@ class Session(Chance):
         return found
 
     def asked_next(self, pairs):
-        """A message with some pairs, which the machine has served. In a session about jobs few messages end the connection."""
+        """A message with some pairs, which the machine has served. In a session about jobs few messages end the
+        connection."""
         message = posted(pairs) if self.about_jobs and not self.one_in(10) else self.message(pairs)
         served(self.machine, message)
         return message
@@ -297,8 +300,8 @@ def session_of(seed):
 
 @dataclass
 class Runs:
-    """A stream for each run on one file, or on no file for a single run; and how many blocks of the file are free, or None for
-    a new one."""
+    """A stream for each run on one file, or on no file for a single run; and how many blocks of the file are free, or
+    None for a new one."""
 
     streams: list
     on_file: bool = False
@@ -351,7 +354,8 @@ def units_in(replies):
 
 
 def differs(program, path, runs):
-    """What one session met, and what differs: nothing, or the stream, the bytes that are to come, and those that came."""
+    """What one session met, and what differs: nothing, or the stream, the bytes that are to come, and those that
+    came."""
     machine, file = Met(filler=filler_of(runs.spare)), path if runs.on_file else "-"
     if runs.spare is not None:
         machine.filler.write(path)
@@ -396,4 +400,6 @@ def main(program, sessions="1000", seed="1"):
 
 
 if __name__ == "__main__":
+    if len(sys.argv) < 2:
+        sys.exit(__doc__)
     sys.exit(main(*sys.argv[1:]))

@@ -14,11 +14,14 @@ EDGES = {1: MOST_TILE, 2: 64, 3: 16, 4: 8, 5: 4, 6: 4}
 TYPES = ["bool", "u8", "i16", "i32", "i64"]
 RUNS = dict(zip(TYPES, ["<HB", "<HB", "<Hh", "<Hi", "<Hq"]))
 VALUES = dict(zip(TYPES, ["<B", "<B", "<h", "<i", "<q"]))
+# why a file may be refused, by number
+FILE_REFUSALS = {93: "Damaged", 94: "NotAStore", 95: "NotClosed"}
 
 
 @dataclass
 class Stored:
-    """Axes and fields as a coverage has them, and for each field its listed tiles by number: whether raw, and the bytes."""
+    """Axes and fields as a coverage has them, and for each field its listed tiles by number: whether raw, and the
+    bytes."""
 
     axes: list
     fields: list

@@ -5,11 +5,12 @@
     oracle/version_1.py files FOLDER       makes the files themselves, in a folder
     oracle/version_1.py texts PROGRAM      how the texts were made: by a program that writes version 1
 
-Each file is kept as a text in oracle/version_1: its length, and the rows of 32 bytes that are not zero, each behind the place where
-it stands, both in hexadecimal digits; zeros at the end of a row are left out. What the files hold is said here, by the writes that
-made them, and the cells that are expected come from these alone. Each file is read from its description (`store.py`); then the
-program opens it, tells all of its cells and closes it; then it opens what it has closed, reads and writes cells of its tiles, and
-closes it again. After each close the file is read from its description once more, and a tile that nobody wrote is as it was.
+Each file is kept as a text in oracle/version_1: its length, and the rows of 32 bytes that are not zero, each behind the
+place where it stands, both in hexadecimal digits; zeros at the end of a row are left out. What the files hold is said
+here, by the writes that made them, and the cells that are expected come from these alone. Each file is read from its
+description (`store.py`); then the program opens it, tells all of its cells and closes it; then it opens what it has
+closed, reads and writes cells of its tiles, and closes it again. After each close the file is read from its description
+once more, and a tile that nobody wrote is as it was.
 """
 
 import os
@@ -35,7 +36,8 @@ ENDS["i64"] = (-(2**63), 2**63 - 1)
 
 @dataclass
 class Written:
-    """A coverage: its axes, its fields, and what was written: a field, a box, and the cells in row-major order, or one for all."""
+    """A coverage: its axes, its fields, and what was written: a field, a box, and the cells in row-major order, or one
+    for all."""
 
     name: str
     axes: list

@@ -3,12 +3,13 @@
 
     oracle/windows.py PROGRAM [COUNT] [SEED]
 
-Most queries are arrays over places, each cell of which condenses the cells around its place, as the focal templates have
-it: under a condition that the neighbour lies in the domain. The boxes of neighbours need not be symmetric nor hold the
-place itself; in some queries a bound of the condition is off by one, a part of it is missing, the axes are exchanged, or
-the neighbour's cell is only a part of an expression, so that neighbours outside of the domain are faults. The others read a
-cell here and a cell there, in whatever order, some of them outside. Coverages lie in one tile and across several ones.
-Each query that is taken is asked as a job too, as zones.py does. What was found is told by the seed of its store and the query.
+Most queries are arrays over places, each cell of which condenses the cells around its place, as the focal templates
+have it: under a condition that the neighbour lies in the domain. The boxes of neighbours need not be symmetric nor hold
+the place itself; in some queries a bound of the condition is off by one, a part of it is missing, the axes are
+exchanged, or the neighbour's cell is only a part of an expression, so that neighbours outside of the domain are faults.
+The others read a cell here and a cell there, in whatever order, some of them outside. Coverages lie in one tile and
+across several ones. Each query that is taken is asked as a job too, as zones.py does. What was found is told by the
+seed of its store and the query. Ends with status 1 where a reply differs, or where no query had a value.
 """
 
 import random

@@ -3,13 +3,14 @@
 
     oracle/zones.py PROGRAM [COUNT] [SEED]
 
-A query is an array over places, each cell of which condenses a box under the condition that a key of the box equals a key of
-the place, or condenses bodies in which such an equation stands, as a factor or another operand; either key may be the left
-operand. One in three is a table of zones over whole layers instead. Keys and values may fault: they divide, and they leave 64
-bits. Keys are negative, Boolean, near one another, far apart, or past 32 bits; there are one zone, a few, and as many zones as
-cells; boxes lie in one tile and across several ones. The program is asked for all of them in one session for each store, and for
-each that it takes as a job too, whose coverages are written over between its steps. Each reply has to be that of
-oracle/meaning.py. What was found is told by the seed of its store and the query.
+A query is an array over places, each cell of which condenses a box under the condition that a key of the box equals a
+key of the place, or condenses bodies in which such an equation stands, as a factor or another operand; either key may
+be the left operand. One in three is a table of zones over whole layers instead. Keys and values may fault: they divide,
+and they leave 64 bits. Keys are negative, Boolean, near one another, far apart, or past 32 bits; there are one zone, a
+few, and as many zones as cells; boxes lie in one tile and across several ones. The program is asked for all of them in
+one session for each store, and for each that it takes as a job too, whose coverages are written over between its steps.
+Each reply has to be that of oracle/meaning.py. What was found is told by the seed of its store and the query. Ends with
+status 1 where a reply differs, or where no query had a value.
 """
 
 import random
@@ -170,8 +171,8 @@ def made(store):
 
 
 def as_job(query, number, update):
-    """The messages that ask a query as a job. Behind its first unit a field that it may read is written over, and what was
-    there comes back behind its last one."""
+    """The messages that ask a query as a job. Behind its first unit a field that it may read is written over, and what
+    was there comes back behind its last one."""
     written = {key: it for key, it in update.items() if key != "values"}
     yield {"request": "SubmitQuery", "query": query}
     yield {"request": "StepJob", "job": number, "units": "1"}
@@ -182,8 +183,8 @@ def as_job(query, number, update):
 
 
 def asked(queries, answers, updates):
-    """The messages that ask queries, and for each query the places of its answers among the replies; each that is taken is
-    asked as a job too."""
+    """The messages that ask queries, and for each query the places of its answers among the replies; each that is taken
+    is asked as a job too."""
     messages, places, jobs = [], [], 0
     for k, (query, wanted) in enumerate(zip(queries, answers)):
         messages.append({"request": "ProcessCoverages", "query": query})
@@ -197,7 +198,8 @@ def asked(queries, answers, updates):
 
 
 def compared(program, most, number, make):
-    """Asks so many queries, forty over each store that is made of a number, and prints the replies that differ."""
+    """Asks so many queries, forty over each store that is made of a number, and prints the replies that differ. Returns
+    1 where one does, or where no query had a value, else 0."""
     done = wrong = values = 0
     while done < most:
         one = make(number)
@@ -224,7 +226,9 @@ def compared(program, most, number, make):
         done += len(queries)
         number += 1
     print(f"{done} queries, {values} of them with a value, {wrong} wrong")
-    return 1 if wrong else 0
+    if not values:
+        print("no value was compared")
+    return 1 if wrong or not values else 0
 
 
 def main(program, most="1000", seed="1"):

@@ -3,14 +3,14 @@
 
     scripts/answer_goals.py CRATE [SECONDS]
 
-At a goal that has no answer a check tries `search rules`, and where that fails much else, until `grind (arith, common_steps)` or
-a lemma that the function names closes it. As an answer the same words often take a tenth of the time.
+At a goal that has no answer a check tries `search rules`, and where that fails much else, until `grind (arith,
+common_steps)` or a lemma that the function names closes it. As an answer the same words often take a tenth of the time.
 
-This checks the crate from nothing with one job, over libraries that are built (`rt lib` in the folders below), and takes the
-functions whose goals took SECONDS (1) or more. It has a check list their goals, tries `search rules` at each, and at those that
-are left what `Goals.terms` says. Then it checks these functions anew: where their goals take a sixth less, and half a second,
-it writes the answers into the function's Answers.antt. It prints the seconds of each function before and after. `rt check`
-then proves the crate.
+This checks the crate from nothing with one job, over libraries that are built (`rt lib` in the folders below), and
+takes the functions whose goals took SECONDS (1) or more. It has a check list their goals, tries `search rules` at each,
+and at those that are left what `Goals.terms` says. Then it checks these functions anew: where their goals take a sixth
+less, and half a second, it writes the answers into the function's Answers.antt. It prints the seconds of each function
+before and after. `rt check` then proves the crate.
 """
 
 import collections
@@ -139,8 +139,8 @@ class Crate:
         return "::".join([*above, self.members.get(last[1:], last[1:]) if last[0] == "+" else last])
 
     def check(self, *functions):
-        """Checks some functions, or all. Returns what is said, and the seconds that the goals of each function took, by when
-        the files that the check keeps were written, one after the other."""
+        """Checks some functions, or all. Returns what is said, and the seconds that the goals of each function took, by
+        when the files that the check keeps were written, one after the other."""
         since = self.written()
         words = [rt.rtlib.RATTLE, "check", *self.crate.words(ONE_JOB), "--incremental", KEPT]
         words += [word for it in functions for word in ("--only", self.path(it))]

@@ -1,17 +1,18 @@
 #!/usr/bin/env python3
-"""Compares the documents with the crates, and runs their examples against the built program. It fails where one of them differs.
+"""Compares the documents with the crates, and runs their examples against the built program. It fails where one of them
+differs.
 
     scripts/check.py [PROGRAM [DOCUMENT..]]
 
-Without a program it compares alone: the tables of crates (`crate_table.py`), the public calls (`surface.py`), the limits
-(`limits.py`), the refusals (`refusals.py`), what is said of keywords, types and limits elsewhere (`words.py`), and the names
-that the documents quote (`names.py`). It tells too which facts stand a second time (`homes.py`) and which contracts are too
-wide or too long (`contracts.py`).
+Without a program it compares alone: the tables of crates (`crate_table.py`), the public calls (`surface.py`), the
+limits (`limits.py`), the refusals (`refusals.py`), what is said of keywords, types and limits elsewhere (`words.py`),
+and the names that the documents quote (`names.py`). It tells too which facts stand a second time (`homes.py`) and which
+contracts are too wide or too long (`contracts.py`).
 
-An example is a line of an indented block that begins with `$ `: a command for bash. The indented lines below it, up to the
-next such line or the next paragraph, are what it prints. All of a document's commands run in one shell, in a folder of their own,
-beside a server on an empty store in memory that is theirs alone; it listens where the document says `localhost:8080`.
-Blocks without such a line are not run.
+An example is a line of an indented block that begins with `$ `: a command for bash. The indented lines below it, up to
+the next such line or the next paragraph, are what it prints. All of a document's commands run in one shell, in a folder
+of their own, beside a server on an empty store in memory that is theirs alone; it listens where the document says
+`localhost:8080`. Blocks without such a line are not run.
 """
 
 import os
@@ -37,7 +38,8 @@ SAYS = "localhost:8080"
 
 
 def examples(text):
-    """The commands of a document, each with its line and what it is to print. A blank line inside a block is one of it."""
+    """The commands of a document, each with its line and what it is to print. A blank line inside a block is one of
+    it."""
     found, is_open, blank = [], False, 0
     for number, line in enumerate(text.splitlines(), 1):
         if not line.strip():

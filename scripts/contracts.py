@@ -1,8 +1,8 @@
-"""The contracts of the crates that hold code, beside the rule for them: no clause is wider than 120 columns, no contract has more
-than ten clauses, and no function has more than six parameters.
+"""The contracts of the crates that hold code, beside the rule for them: no clause is wider than 120 columns, no
+contract has more than ten clauses, and no function has more than six parameters.
 
-A clause is its whole text, from `requires` or `ensures` to its closing brace, with line breaks and runs of blanks as one
-blank. A receiver counts as a parameter.
+A clause is its whole text, from `requires` or `ensures` to its closing brace, with line breaks and runs of blanks as
+one blank. A receiver counts as a parameter.
 """
 
 import re

@@ -3,10 +3,10 @@
 
     scripts/crate_times.py [COMMIT ..]
 
-Proves each crate of a commit from nothing and with one job, as many at a time as there are processors; a program is also built
-by both compilers. Without a commit it takes this tree as it is. Prints each crate as it ends, with its processor seconds and
-its functions, and at the end their sum. Commits are taken one after the other, so that they can be compared. Ends with status 1
-where a crate is not proved.
+Proves each crate of a commit from nothing and with one job, as many at a time as there are processors; a program is
+also built by both compilers. Without a commit it takes this tree as it is. Prints each crate as it ends, with its
+processor seconds and its functions, and at the end their sum. Commits are taken one after the other, so that they can
+be compared. Ends with status 1 where a crate is not proved.
 """
 
 import functools
@@ -24,7 +24,8 @@ from must_fail_groups import ONE_JOB, rt
 
 
 def proved(name):
-    """Proves a crate of the tree that this runs in, over those below it, and builds what `rt ci` builds. Returns the status."""
+    """Proves a crate of the tree that this runs in, over those below it, and builds what `rt ci` builds. Returns the
+    status."""
     rt.Crate.cuts_libraries, rt.Crate.allowed, rt.rtlib.Crate = True, rt.handles_of(os.getcwd()), rt.Crate
     rt.rtlib.guarded()
     crate = next(it for it in rt.rtlib.crates_below(os.getcwd()) if it.name == name)

@@ -1,10 +1,11 @@
-"""The functions, the definitions and the enums of a text, each with a shape by which it is found again under other names.
+"""The functions, the definitions and the enums of a text, each with a shape by which it is found again under other
+names.
 
-In a shape numbers stand for the names of variables, in the order in which they come, and `itself` for the name of what is
-defined; the names of what is called stay. The shape of a function is the types of its parameters, its result, where one type
-of numbers is as good as another, and its body; a long body is a shape alone too, with numbers also for the names of fields
-and types. A definition's shape is its whole text, an enum's its variants. What is shorter than a short sentence has no shape:
-it is the same in many places and says nothing.
+In a shape numbers stand for the names of variables, in the order in which they come, and `itself` for the name of what
+is defined; the names of what is called stay. The shape of a function is the types of its parameters, its result, where
+one type of numbers is as good as another, and its body; a long body is a shape alone too, with numbers also for the
+names of fields and types. A definition's shape is its whole text, an enum's its variants. What is shorter than a short
+sentence has no shape: it is the same in many places and says nothing.
 """
 
 import re
@@ -35,8 +36,8 @@ KEPT = set(
 
 
 def told(own, text):
-    """The tokens of code, each with what it is: the name of a variable, of a field or of a type, or nothing of these. A field
-    whose value is the variable of its name is written out."""
+    """The tokens of code, each with what it is: the name of a variable, of a field or of a type, or nothing of these. A
+    field whose value is the variable of its name is written out."""
     found, braces, before = [], [], ""
     tokens = TOKEN.findall(text)
     for it, after in zip(tokens, tokens[1:] + [""]):

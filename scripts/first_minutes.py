@@ -8,6 +8,7 @@ It clones this repository, runs the first `rt try` to the first `7`, starts the 
 port is a free one. Every answer has to be as README prints it.
 """
 
+import contextlib
 import os
 import re
 import signal
@@ -20,7 +21,7 @@ sys.dont_write_bytecode = True
 TOP = os.path.dirname(os.path.dirname(os.path.abspath(__file__)))
 
 from check import SAYS, examples
-from served import LONGEST, free_port
+from served import LONGEST, connected, free_port
 
 
 class Timer:
@@ -53,12 +54,10 @@ def last_line(command, folder):
 
 
 def ask(text, port, timer, running):
-    """Asks what README asks, up to the focal sum, once the server answers."""
+    """Asks what README asks, up to the focal sum, once the server listens."""
     shell = ["bash", "--norc", "--noprofile", "-c"]
-    curl = f"curl -s -o /dev/null http://127.0.0.1:{port}/ows"
-    while running.poll() is None and subprocess.run(curl.split(), check=False).returncode:
-        time.sleep(0.2)
-    timer.tell("the server answers")
+    connected(port, running).close()
+    timer.tell("the server listens")
     function, *asked = [(it, wanted) for _, it, wanted in examples(text)]
     for command, wanted in asked:
         words = f"{function[0]}; {command}".replace(SAYS, f"127.0.0.1:{port}")
@@ -91,8 +90,9 @@ def main():
             try:
                 ask(text, port, timer, running)
             finally:
-                # rt ends what it has started
-                os.killpg(running.pid, signal.SIGINT)
+                # rt ends what it has started, where it has not ended before
+                with contextlib.suppress(ProcessLookupError):
+                    os.killpg(running.pid, signal.SIGINT)
                 running.wait(LONGEST)
         if "--proved" in sys.argv[1:]:
             proved(text, listed, folder, checkout, timer)

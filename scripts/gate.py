@@ -1,15 +1,16 @@
 #!/usr/bin/env python3
-"""The gate, on a copy of this tree: the layout of the crates, `rt ci` without the must-fail edits, then, over the program
-that it built, what `trials` lists, and over its libraries the edits.
+"""The gate, on a copy of this tree: the layout of the crates, `rt ci` without the must-fail edits, then, over the
+program that it built, what `trials` lists, and over its libraries the edits.
 
-In CI's clone those edits alone are tried that are not recorded as refused on the text that stands here by the toolchain that is, and where all
-are recorded, those of one crate, which the commit decides.
+In CI's clone those edits alone are tried that are not recorded as refused on the text that stands here by the toolchain
+that is, and where all are recorded, those of one crate, which the commit decides.
 """
 
 import contextlib
 import os
 import re
 import shutil
+import signal
 import subprocess
 import sys
 import tempfile
@@ -50,7 +51,8 @@ def copied():
 
 
 def not_laid_out():
-    """The crates that `rt fmt` changes, in a tree where it may: `rt ci` proves none of them, and tells so in its turn."""
+    """The crates that `rt fmt` changes, in a tree where it may: `rt ci` proves none of them, and tells so in its
+    turn."""
     for it in dependencies("."):
         was = texts_below(f"crates/{it}")
         subprocess.run(["rt", "fmt"], cwd=f"crates/{it}", stdin=subprocess.DEVNULL, capture_output=True, check=True)
@@ -111,9 +113,28 @@ def trials(seed):
     yield "the layout of Python", ["black", "--check", "--quiet", "."], lacking("black")
 
 
+def ended_well(words):
+    """Runs a trial in a session of its own and prints what it wrote. Returns whether it ended well; where it does not
+    end in time, it is killed, with all of its group."""
+    with subprocess.Popen(
+        words, stdin=subprocess.DEVNULL, stdout=subprocess.PIPE, stderr=subprocess.PIPE, start_new_session=True
+    ) as trial:
+        late = ""
+        try:
+            wrote = trial.communicate(timeout=LONGEST)
+        except subprocess.TimeoutExpired as so_far:
+            wrote, late = (so_far.stdout, so_far.stderr), f"it has not ended in {LONGEST} seconds\n"
+        finally:
+            if trial.returncode is None:
+                os.killpg(trial.pid, signal.SIGKILL)
+                trial.wait()
+    print(*((it or b"").decode(errors="replace") for it in wrote), late, sep="", end="")
+    return trial.returncode == 0 and not late
+
+
 def run_trials(seed):
-    """Runs the trials one after the other, and returns those that failed. What `rt ci` has left to be written to the disk
-    is written before, so that no trial waits for it."""
+    """Runs the trials one after the other, and returns those that failed. What `rt ci` has left to be written to the
+    disk is written before, so that no trial waits for it."""
     os.sync()
     failed = []
     for what, command, lacks in trials(seed):
@@ -122,17 +143,11 @@ def run_trials(seed):
             continue
         words = [shutil.which(command[0]) or os.path.abspath(command[0]), *command[1:]]
         print(f"{what}:", flush=True)
-        is_well = False
-        try:
-            ran = subprocess.run(
-                words, stdin=subprocess.DEVNULL, capture_output=True, text=True, check=False, timeout=LONGEST
-            )
-            print(ran.stdout, ran.stderr, sep="", end="")
-            is_well = not ran.returncode
-        except subprocess.TimeoutExpired:
-            print(f"it has not ended in {LONGEST} seconds")
-        print(f"{what}: {'ok' if is_well else 'failed'}", flush=True)
-        failed += [what] * (not is_well)
+        if ended_well(words):
+            print(f"{what}: ok", flush=True)
+        else:
+            print(f"{what}: failed", flush=True)
+            failed.append(what)
     return failed
 
 

@@ -3,12 +3,13 @@
 
     scripts/homes.py
 
-The number, the name and the status of a refusal, a keyword, the name and the kind of a field type and a limit stand once in
-the code and once in the definitions, in the files that HOMES names, and so do the edges of tiles and the distance of two
-coordinates; a limit stands where its constant does, which docs/LIMITS.md names. All else says these facts by their names.
-This reads `src` and `specs` of the crates that hold code, without comments, and prints every line that says one of them
-again; every arm that answers want of memory to another error; and every function, definition and enum that stands in two
-crates, whatever the names in it (`doubles.py`). `scripts/check.py` fails where there is one.
+The number, the name and the status of a refusal, a keyword, the name and the kind of a field type and a limit stand
+once in the code and once in the definitions, in the files that HOMES names, and so do the edges of tiles and the
+distance of two coordinates; a limit stands where its constant does, which docs/LIMITS.md names. All else says these
+facts by their names. This reads `src` and `specs` of the crates that hold code, without comments, and prints every line
+that says one of them again; every arm that answers want of memory to another error; and every function, definition and
+enum that stands in two crates, whatever the names in it (`doubles.py`). It ends with status 1 where there is one, and
+`scripts/check.py` fails.
 """
 
 import functools
@@ -124,8 +125,8 @@ def named():
 
 
 def is_refusal(number, before, text, is_strict):
-    """Whether a number in a line is that of a refusal: behind a word that says so, beside the refusal's name, or where nothing
-    else is meant."""
+    """Whether a number in a line is that of a refusal: behind a word that says so, beside the refusal's name, or where
+    nothing else is meant."""
     if SAYS_REFUSAL.search(before):
         return True
     if NO_REFUSAL.search(before):
@@ -171,7 +172,8 @@ def says_kind(_, text):
 
 @functools.cache
 def owners():
-    """Of each number past a thousand that is a limit the crates that docs/LIMITS.md has with a constant of that value."""
+    """Of each number past a thousand that is a limit the crates that docs/LIMITS.md has with a constant of that
+    value."""
     found = {value: set() for _, value, _ in limits.rows(of_limits=True) if value > 1000 and value not in SHARED}
     for _, value, where in limits.rows():
         places = [(other, file) for _, other, file in limits.NAMED.findall(where)]
@@ -213,8 +215,8 @@ def compared(path, text):
 
 
 def says_limit(path, text):
-    """Whether a line has a limit as a number: in a crate that has no constant of that value, or in a comparison one that the crate
-    or one below it has, or that is a constant of the file."""
+    """Whether a line has a limit as a number: in a crate that has no constant of that value, or in a comparison one
+    that the crate or one below it has, or that is a constant of the file."""
     crate = path.split("/")[0]
     found = [number for number, _ in numerals(text)] + [2 ** int(it) for it in POWER.findall(text) if it != "16"]
     known = limits_below()[crate] | constants_beside().get(path, set())
@@ -320,6 +322,11 @@ def faults():
     yield from copies()
 
 
+def main():
+    found = list(faults())
+    print(*found, sep="\n", end="\n" if found else "")
+    return 1 if found else 0
+
+
 if __name__ == "__main__":
-    for told in faults():
-        print(told)
+    sys.exit(main())

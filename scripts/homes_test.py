@@ -1,6 +1,6 @@
 #!/usr/bin/env python3
-"""Tests the check of the documents and the finder of second homes. It has to pass on a copy of this tree; then a fact of each
-kind is said once more there, or otherwise in a document, and each has to be told, and the check has to fail.
+"""Tests the check of the documents and the finder of second homes. It has to pass on a copy of this tree; then a fact
+of each kind is said once more there, or otherwise in a document, and each has to be told, and the check has to fail.
 
     scripts/homes_test.py
 """
@@ -91,8 +91,8 @@ LINES = [
         "of_two: a definition, as both in stream_face/specs/Views.antt",
     ),
 ]
-# Functions, definitions and enums of one crate that are written once more in another one: where from, what, where to, and its
-# names there behind those of the home.
+# Functions, definitions and enums of one crate that are written once more in another one: where from, what, where to,
+# and its names there behind those of the home.
 COPIES = [
     ("arr_core/src/signature.rt", "fn copy", "catalogue/src/writing.rt", "self signature alloc a"),
     ("arr_core/src/signature.rt", "fn copy", "wcps_types/src/source.rt", "Signature Head name id fields rows"),

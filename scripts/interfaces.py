@@ -1,7 +1,8 @@
 """What a check reads of the crates below its own.
 
-The toolchain shows it their definitions and lemmas, and of their code the types, the constants and the contracts. It shows it no
-body of a function, no tactic and no private function, and no crate names the proof of a function of another one.
+The toolchain shows it their definitions and lemmas, and of their code the types, the constants and the contracts. It
+shows it no body of a function, no tactic and no private function, and no crate names the proof of a function of another
+one.
 """
 
 import re
@@ -12,8 +13,8 @@ PROOF_OF_FUNCTION = re.compile(r"crates/\w+/proofs/.+/(?:Answers|Invariants)\.an
 
 
 def without_bodies(lines):
-    """The lines of a file of code, as `rt fmt` lays it out, without tactics, bodies and functions that are private to the file or
-    the crate; None where a body is laid out in another way."""
+    """The lines of a file of code, as `rt fmt` lays it out, without tactics, bodies and functions that are private to
+    the file or the crate; None where a body is laid out in another way."""
     kept, function, in_body = [], None, False
     for line in lines:
         if in_body:
@@ -26,7 +27,8 @@ def without_bodies(lines):
         function = head or function
         if not TACTIC.fullmatch(line) and not (function and function[1] == "" and not function[2]):
             kept.append(line)
-        # a body begins behind the head in its line, or in a line that is level with it, behind the parameters or the clauses
+        # a body begins behind the head in its line, or in a line that is level with it, behind the parameters or the
+        # clauses
         begins = function and (head or line.startswith((f"{function[1]}{{", f"{function[1]})")))
         if begins and line.endswith("{"):
             in_body = True

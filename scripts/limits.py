@@ -1,7 +1,8 @@
 """The whole numbers that the crates which hold code have as constants, beside docs/LIMITS.md.
 
-A row of the page has a value, and a cell with the places where it stands: `NAME` in `crate/file.rt`, with `= VALUE` behind the
-name where that constant has another value than the row; or the number in `crate/file.rt`, where it has no name.
+A row of the page has a value, and a cell with the places where it stands: `NAME` in `crate/file.rt`, with `= VALUE`
+behind the name where that constant has another value than the row; or the number in `crate/file.rt`, where it has no
+name.
 """
 
 import re
@@ -39,7 +40,8 @@ def constants():
 
 
 def rows(of_limits=False):
-    """Of each row of the page what it is about, its value and the places that it names; of its limits alone where it is asked."""
+    """Of each row of the page what it is about, its value and the places that it names; of its limits alone where it is
+    asked."""
     text = read(PAGE).partition(NO_LIMITS if of_limits else "\0")[0]
     cells = [[it.strip() for it in line.split("|")[1:-1]] for line in text.splitlines() if line.startswith("| ")]
     for what, first, where, *_ in cells:

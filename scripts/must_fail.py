@@ -4,10 +4,10 @@
   scripts/must_fail.py               names the crates whose edits are not recorded as refused on the text that stands here
   scripts/must_fail.py try [NAME..]  tries those, or the named ones, and records each crate whose edits were all refused
 
-What an edit comes to follows from the toolchain, the crate's text and what a check reads of the crates below it, but not from
-comments. The record, scripts/must_fail.txt, has a line for each crate and each release of the toolchain that refused all of its
-edits: the crate, what `rt version` says, and the sum of all these. Any other change changes the sum, and the edits are tried
-again. What one release refused stays noted while another one is at work.
+What an edit comes to follows from the toolchain, the crate's text and what a check reads of the crates below it, but
+not from comments. The record, scripts/must_fail.txt, has a line for each crate and each release of the toolchain that
+refused all of its edits: the crate, what `rt version` says, and the sum of all these. Any other change changes the sum,
+and the edits are tried again. What one release refused stays noted while another one is at work.
 """
 
 import hashlib
@@ -102,8 +102,8 @@ def recorded(kit):
 
 
 def record(kit, parts, refused, tried):
-    """Notes the crates whose edits this release refused all, and of those that were tried no others. A line of another release
-    stays while its sum stands."""
+    """Notes the crates whose edits this release refused all, and of those that were tried no others. A line of another
+    release stays while its sum stands."""
     stand = {(name, by) for name, by, was in noted() if name in parts and was == sum_of(by, *parts[name])}
     stand = stand - {(name, kit) for name in tried} | {(name, kit) for name in refused}
     with open(RECORD, "w", encoding="utf-8") as file:
@@ -111,7 +111,8 @@ def record(kit, parts, refused, tried):
 
 
 def tried(names, builds):
-    """Tries the edits of these crates and says what came of each. Returns the crates whose edits were all refused, how many edits were, and what is told of the others."""
+    """Tries the edits of these crates and says what came of each. Returns the crates whose edits were all refused, how
+    many edits were, and what is told of the others."""
     import must_fail_groups as groups
 
     crates = [it for it in groups.rt.rtlib.crates_below(os.getcwd()) if it.name in names]

@@ -1,8 +1,8 @@
 """Tries the must-fail edits of a crate, those of different functions in one check.
 
-A contract stands for its function in the proofs of all others, so a wrong body leaves goals open in its own proof alone.
-In a group an edit counts as refused only where a goal of its own function is told as open, or its own proof has an error
-that is more than a missing name. Every other edit is tried alone, just as `rt ci` tries it.
+A contract stands for its function in the proofs of all others, so a wrong body leaves goals open in its own proof
+alone. In a group an edit counts as refused only where a goal of its own function is told as open, or its own proof has
+an error that is more than a missing name. Every other edit is tried alone, just as `rt ci` tries it.
 
 Each group has a control: a function that no edit of the group reaches gets a statement that changes nothing, and has to
 be proved in that check. Where it is not, nothing is taken from the group, and the run fails.
@@ -61,7 +61,8 @@ class Function:
         return path == self.path and self.opening < rows[0] and rows[-1] < self.last
 
     def proofs(self):
-        """The folders that its proof may stand in: a cycle of calls has one, and so has a function that calls itself."""
+        """The folders that its proof may stand in: a cycle of calls has one, and so has a function that calls
+        itself."""
         parents = self.place.split("::")[:-1]
         names = [self.cycle] if self.cycle else [self.name, f"+{self.name}"]
         return tuple("/".join(["proofs", *parents, it, ""]) for it in names)
@@ -91,7 +92,8 @@ def module_of(path):
 
 
 def functions_in(path, text, homes):
-    """The functions of a file in rt fmt's layout: a body opens and closes at the depth of its `fn`. A type's own method is named after the module of its type."""
+    """The functions of a file in rt fmt's layout: a body opens and closes at the depth of its `fn`. A type's own method
+    is named after the module of its type."""
     rows, owner, found = text.split("\n"), [], []
     for at, row in enumerate(rows):
         if impl := IMPL.match(row):
@@ -142,7 +144,8 @@ class Group:
                 shutil.copytree(f"{crate.folder}/{part}", f"{room}/{part}")
 
     def take(self, edit):
-        """Makes an edit too, if it fits and changes bodies alone, of functions that no other edit changes, and a control is left."""
+        """Makes an edit too, if it fits and changes bodies alone, of functions that no other edit changes, and a
+        control is left."""
         texts, why = rt.read_edit(edit, self.room)
         if why:
             return
@@ -174,7 +177,8 @@ class Group:
             file.write(text)
 
     def control(self):
-        """The shortest function that calls none that is changed, by whatever steps, and has no proof by hand; with a contract, if there is one."""
+        """The shortest function that calls none that is changed, by whatever steps, and has no proof by hand; with a
+        contract, if there is one."""
         reached, before = {it.name for it in self.functions_changed()}, None
         while reached != before:
             before, reached = reached, reached | {it.name for it in self.functions if it.calls & reached}
@@ -186,7 +190,8 @@ class Group:
         return min(free, key=lambda it: (not it.promises, it.last - it.opening, it.place), default=None)
 
     def check(self, kept, number):
-        """Checks the functions that are changed and the control. Returns whether that control is proved; None where the check did not reach the prover."""
+        """Checks the functions that are changed and the control. Returns whether that control is proved; None where the
+        check did not reach the prover."""
         control = self.control()
         rows = self.text(control.path).split("\n")
         rows[control.opening - 1] += f" {HARMLESS.format(number)}"
@@ -209,7 +214,8 @@ class Group:
 
 
 def tried_alone(crate, edit, kept):
-    """Whether an edit is refused in a check of its own, and what to say. What is not refused over kept work is tried again from nothing, as rt ci does."""
+    """Whether an edit is refused in a check of its own, and what to say. What is not refused over kept work is tried
+    again from nothing, as rt ci does."""
     kind, text = rt.must_fail(crate, edit, ONE_JOB, kept)
     if kind not in WELL:
         kind, text = rt.must_fail(crate, edit, ONE_JOB)
@@ -217,7 +223,8 @@ def tried_alone(crate, edit, kept):
 
 
 def rounds_of(crate, functions, edits):
-    """The edits of a crate in rounds: those of one can be made together, but for the last round, of edits that each need a check of their own."""
+    """The edits of a crate in rounds: those of one can be made together, but for the last round, of edits that each
+    need a check of their own."""
     rounds, left = [], edits
     while left:
         with tempfile.TemporaryDirectory(prefix="edits-") as room:
@@ -230,7 +237,8 @@ def rounds_of(crate, functions, edits):
 
 
 def try_round(crate, functions, edits, kept, numbers):
-    """Tries edits of a crate over the libraries built below it and over what earlier checks of it kept: pairs of whether one is refused, and what to say."""
+    """Tries edits of a crate over the libraries built below it and over what earlier checks of it kept: pairs of
+    whether one is refused, and what to say."""
     named = lambda it: f"must-fail {crate.name}/{os.path.basename(it)}"
     told, alone, most = [], [], len(edits)
     while edits:
@@ -248,7 +256,8 @@ def try_round(crate, functions, edits, kept, numbers):
         refused = group.edits_in(Function.is_open) if is_proved else []
         told += [(True, f"{named(it)}: refused, as it must be, in a group of {len(group.edits)}") for it in refused]
         if not refused:
-            # what alone can settle: an edit that cannot be read, one that no group takes, and one that a group of its own does not refuse
+            # what alone can settle: an edit that cannot be read, one that no group takes, and one that a group of its
+            # own does not refuse
             settled = group.edits_in(Function.is_unread) if is_proved is None and group.edits else []
             settled = settled or ([*group.edits] or edits if len(group.edits) < 2 else [])
             alone += settled
@@ -259,8 +268,8 @@ def try_round(crate, functions, edits, kept, numbers):
 
 
 def try_edits(crate, tell):
-    """What came of the edits of a crate, told as each round ends. Its rounds run one after the other, each over what those before it have proved, the first
-    over what the crate's own checks have kept."""
+    """What came of the edits of a crate, told as each round ends. Its rounds run one after the other, each over what
+    those before it have proved, the first over what the crate's own checks have kept."""
     edits, strays = rt.edits_of(crate)
     told = [
         (
@@ -283,7 +292,8 @@ def try_edits(crate, tell):
 
 
 def side_by_side(crates, tell=lambda told: None):
-    """What came of the edits of each crate, by its name. As many crates at a time as there are processors and memory."""
+    """What came of the edits of each crate, by its name. As many crates at a time as there are processors and
+    memory."""
     rt.rtlib.guarded()
     call = lambda crate, given, jobs: try_edits(crate, tell)
     # a program's begin before the others, since what is searched for a wrong body there takes long, and much memory

@@ -1,4 +1,5 @@
-"""The refusals of `arr_core::Refusal`, by number, name and status, beside docs/REFUSALS.md and the independent reading in oracle/.
+"""The refusals of `arr_core::Refusal`, by number, name and status, beside docs/REFUSALS.md and the independent reading
+in oracle/.
 
 The independent reading has no device, and so it may lack the refusals of one.
 """
@@ -65,8 +66,8 @@ def page_faults():
 def reading_faults():
     """Of the independent reading: the machine's tables, and those of a file's refusals."""
     # pylint: disable=import-outside-toplevel
-    import fuzz
     import machine
+    import store
 
     is_asked = lambda it: it not in OF_DEVICE or it in machine.REFUSALS
     asked = {it: name for it, name in names().items() if is_asked(it)}
@@ -77,12 +78,12 @@ def reading_faults():
         for it in machine.STATUSES
         if it not in machine.REFUSALS
     ]
-    opening = {it: name for it, name in names().items() if it in fuzz.FILE_REFUSALS}
+    opening = {it: name for it, name in names().items() if it in store.FILE_REFUSALS}
     return [
         *stray,
         *differing("oracle/machine.py", "name", machine.REFUSALS, asked),
         *differing("oracle/machine.py", "status", replied, given),
-        *differing("oracle/fuzz.py", "name", fuzz.FILE_REFUSALS, opening),
+        *differing("oracle/store.py", "name", store.FILE_REFUSALS, opening),
     ]
 
 

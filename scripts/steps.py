@@ -17,8 +17,9 @@ import re
 import sys
 
 CRATES = os.path.join(os.path.dirname(os.path.dirname(os.path.abspath(__file__))), "crates")
-# as Rattle-wcps_text-proofs.lexer.lex.Lts.oantt, or, in a cycle of calls, ..proofs.tree.+tree-fmt.Lts-ExprDebug-fmt.oantt
-# the records that the prover keeps of declarations, which end with .decls.oantt, are not counted
+# as Rattle-wcps_text-proofs.lexer.lex.Lts.oantt, or, in a cycle of calls,
+# ..proofs.tree.+tree-fmt.Lts-ExprDebug-fmt.oantt the records that the prover keeps of declarations, which end with
+# .decls.oantt, are not counted
 STEPS = re.compile(r"Rattle-(\w+)-proofs\.(.+)\.Lts(?:-([^.]+))?\.oantt")
 MEGABYTE = 1_000_000
 LONG, MOST_LONG = 5 * MEGABYTE, 10

@@ -3,15 +3,15 @@
 
     scripts/surface.py [draft]
 
-Without a word it prints where the page and the crates differ, as `scripts/check.py` does. With `draft` it writes the tables of
-the page anew: a call that is there keeps its words, also where its signature has changed; a new one gets the first sentence of
-its doc comment; one that is gone goes. All else on the page stays. A call whose contract has a condition has to name it, behind
-the word `Condition:`, which a draft leaves to be written.
+Without a word it prints where the page and the crates differ, as `scripts/check.py` does. With `draft` it writes the
+tables of the page anew: a call that is there keeps its words, also where its signature has changed; a new one gets the
+first sentence of its doc comment; one that is gone goes. All else on the page stays. A call whose contract has a
+condition has to name it, behind the word `Condition:`, which a draft leaves to be written.
 
-What a crate shows is what its lib.rt names as `pub`: its own items, and those of `pub use` and of `pub mod`; of a program, each
-`pub` item of its modules. Besides functions, methods, traits, types and constants it has which types have the traits of these
-crates. The text of a crate is read by the layout that `rt fmt` gives it: an item begins in the first column, and a member of
-one four columns further in.
+What a crate shows is what its lib.rt names as `pub`: its own items, and those of `pub use` and of `pub mod`; of a
+program, each `pub` item of its modules. Besides functions, methods, traits, types and constants it has which types have
+the traits of these crates. The text of a crate is read by the layout that `rt fmt` gives it: an item begins in the
+first column, and a member of one four columns further in.
 """
 
 import functools
@@ -33,8 +33,8 @@ USE = re.compile(r"^pub use ([\w:]+?)(?:::\{([^}]*)\})?;", re.M)
 
 @dataclass
 class Call:
-    """A row of the page: the path of what is called, its signature, the first sentence of its doc comment, and whether its
-    contract has a condition."""
+    """A row of the page: the path of what is called, its signature, the first sentence of its doc comment, and whether
+    its contract has a condition."""
 
     path: str
     text: str

@@ -51,9 +51,9 @@ WIDE = (1440, 900)
 SHOT = (1280, 800)
 PHONE = (390, 844)
 
-# Scripts for the browser: whether the first picture is README's, a place in the answer's picture, the text that is selected,
-# which of some texts are read as queries, a list of what the progress was, a dot of the first picture, and whether an address
-# was asked, whose answer a page of another site is not shown.
+# Scripts for the browser: whether the first picture is README's, a place in the answer's picture, the text that is
+# selected, which of some texts are read as queries, a list of what the progress was, a dot of the first picture, and
+# whether an address was asked, whose answer a page of another site is not shown.
 PICTURE = "return document.querySelector('#first canvas')?.height == 480"
 CORNER = """
 const it = document.querySelector('#answer canvas');

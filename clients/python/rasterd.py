@@ -42,8 +42,8 @@ RANGES = {
 
 
 class Refused(Exception):
-    """A request that the server refused: `number` and `name` say why, `status` is that of HTTP, and `reason` what to change,
-    or None where that was not found."""
+    """A request that the server refused: `number` and `name` say why, `status` is that of HTTP, and `reason` what to
+    change, or None where that was not found."""
 
     def __init__(self, number, name, status, reason=None):
         super().__init__(f"{number} {name}: {reason}" if reason else f"{number} {name}")
@@ -150,7 +150,8 @@ def items_of(csv):
 
 
 def has_come(sock):
-    """Whether something, or its end, has come on a connection; whatever its number, as `select` takes none from 1,024 on."""
+    """Whether something, or its end, has come on a connection; whatever its number, as `select` takes none from 1,024
+    on."""
     poll = select.poll()
     poll.register(sock, select.POLLIN)
     return bool(poll.poll(0))
@@ -164,8 +165,8 @@ def print_progress(done, whole):
 class Session:
     """Requests to one server, at a path of a proxy's where there is one, and over TLS by an `ssl.SSLContext`.
 
-    The connection is kept inside a call and inside a `with`. It is made anew where the server has ended it: it does so after
-    1,000 messages, and after 60 seconds without one."""
+    The connection is kept inside a call and inside a `with`. It is made anew where the server has ended it: it does so
+    after 1,000 messages, and after 60 seconds without one."""
 
     def __init__(self, host="127.0.0.1", port=8080, timeout=60, path="/ows", tls=None):
         self.path, self.depth = path, 0
@@ -258,10 +259,10 @@ class Session:
             self.request("UpdateCoverage", coverage=coverage, field=field, box=box, fill=cell_text(cell))
 
     def write(self, coverage, field, values, box=None, progress=None):
-        """Writes cells into a box, or into the whole coverage: an array or nested sequences of its shape, in which axes of
-        one coordinate may be left out, or all cells in a row, in row-major order. What is too long for one request goes in
-        several, each of whole rows along the first axis or parts of them; `progress` is called with the cells that are
-        written and all that there are. Where a request is refused, the parts before it have been written."""
+        """Writes cells into a box, or into the whole coverage: an array or nested sequences of its shape, in which axes
+        of one coordinate may be left out, or all cells in a row, in row-major order. What is too long for one request
+        goes in several, each of whole rows along the first axis or parts of them; `progress` is called with the cells
+        that are written and all that there are. Where a request is refused, the parts before it have been written."""
         with self:
             box = self.describe(coverage)[0] if box is None else box
             values = arranged(values)
@@ -296,16 +297,16 @@ class Session:
         return items_of(self.query(query))
 
     def array(self, query, shape=None):
-        """The one item of the answer as an array, or, of several fields, as a list of one for each. Lines and cells are its
-        two axes unless a shape is given."""
+        """The one item of the answer as an array, or, of several fields, as a list of one for each. Lines and cells are
+        its two axes unless a shape is given."""
         return arrays_of(self.query(query), shape)
 
     # Jobs
 
     def submit(self, query):
-        """Makes a job of a query: its number, and the units that it has left. Its answer is that of the coverages as they are
-        now. Updates and deletions of them are taken meanwhile; what they write over stays in the file until the job has no
-        units left or is cancelled, so a job that is not brought to its end is to be cancelled."""
+        """Makes a job of a query: its number, and the units that it has left. Its answer is that of the coverages as
+        they are now. Updates and deletions of them are taken meanwhile; what they write over stays in the file until
+        the job has no units left or is cancelled, so a job that is not brought to its end is to be cancelled."""
         words = self.request("SubmitQuery", query=query).split()
         return int(words[1]), int(words[3])
 
@@ -314,8 +315,8 @@ class Session:
         return int(self.request("StepJob", job=job, units=units).split()[1])
 
     def fetch(self, job):
-        """The answer of a job without units left, as the server's CSV. The job is gone then, also where its answer is a fault,
-        which is raised as `Refused`."""
+        """The answer of a job without units left, as the server's CSV. The job is gone then, also where its answer is a
+        fault, which is raised as `Refused`."""
         return self.request("FetchJob", job=job)
 
     def cancel(self, job):
@@ -323,30 +324,36 @@ class Session:
         self.request("CancelJob", job=job)
 
     def run(self, query, units=None, progress=print_progress):
-        """The answer to a query as a job, so many units a request, or as many as take some 50 milliseconds, measured as it
-        goes; others are served between these, as the connection is ended after each. `progress` is called with the units done
-        and all that there are; None is for silence. A job that is not brought to its end is cancelled."""
+        """The answer to a query as a job, so many units a request, or as many as take some 50 milliseconds, measured as
+        it goes. Others are served between these, as the connection is ended after each. The answer is fetched on the
+        last connection, since a run of the server, with its jobs, may end between two. `progress` is called with the
+        units done and all that there are; None is for silence. A job that is not brought to its end is cancelled."""
         job, whole = self.submit(query)
-        left, size = whole, units or 1
+        left, size, answer = whole, units or 1, None
         try:
+            self.close()
             while left:
-                self.close()
                 size, start = min(size, left), time.monotonic()
-                left = self.stepped(job, left, size)
-                took = max(time.monotonic() - start, 1e-6)
+                with self:
+                    left = self.stepped(job, left, size)
+                    took = max(time.monotonic() - start, 1e-6)
+                    try:
+                        answer = None if left else self.fetch(job)
+                    finally:
+                        self.close()
+                        if progress:
+                            progress(whole - left, whole)
                 size = units or max(1, min(2 * size, int(size * STEP / took), MOST_UNITS))
-                if progress:
-                    progress(whole - left, whole)
-            return self.fetch(job)
+            return answer
         except BaseException as fault:
-            if not is_gone(fault):
+            if answer is None and not is_gone(fault):
                 with contextlib.suppress(Refused, OSError, http.client.HTTPException):
                     self.cancel(job)
             raise
 
     def stepped(self, job, left, units):
-        """The units that a job has left after a step. Another number than is to come is that of another job: then another
-        server answered, or a run of the server has ended, and its jobs with it."""
+        """The units that a job has left after a step. Another number than is to come is that of another job: then
+        another server answered, or a run of the server has ended, and its jobs with it."""
         found = self.step(job, units)
         if found != max(0, left - units):
             raise NotUnderstood(

@@ -1,5 +1,5 @@
-"""Questions whose plain query counts too much work (54) or too many cells (55), in forms that pass: what is the same for all
-cells is asked first, tables go over zones in place of cells, and the rest goes in parts.
+"""Questions whose plain query counts too much work (54) or too many cells (55), in forms that pass: what is the same
+for all cells is asked first, tables go over zones in place of cells, and the rest goes in parts.
 
     session = rasterd.Session(port=8080)
     rasterd_algebra.zonal(session, "dem", "district", "mean")       # {1: 412, 2: 388, ..}
@@ -8,8 +8,8 @@ cells is asked first, tables go over zones in place of cells, and the rest goes 
     rasterd_algebra.histogram(session, "image.red", 64)
     rasterd_algebra.cells(session, "dem", lambda c: f"{c} - 400")
 
-A layer is a coverage with one field, or a field as `image.red`. Where many cells are asked the query goes as a job, so that
-other clients are served meanwhile. Arrays are numpy's; `zonal` and `histogram` need none.
+A layer is a coverage with one field, or a field as `image.red`. Where many cells are asked the query goes as a job, so
+that other clients are served meanwhile. Arrays are numpy's; `zonal` and `histogram` need none.
 """
 
 import rasterd
@@ -41,8 +41,8 @@ def ends(session, layer):
 
 
 def table(session, points, bounds, query):
-    """The fields at each place from a lowest to a highest one, in parts where all at once is too much. `query` gives the text
-    for such bounds."""
+    """The fields at each place from a lowest to a highest one, in parts where all at once is too much. `query` gives
+    the text for such bounds."""
     low, high = bounds
     try:
         return asked(session, query(low, high), points * (high - low + 1))[0]
@@ -54,8 +54,8 @@ def table(session, points, bounds, query):
 
 
 def zonal(session, layer, zones, operation="sum"):
-    """A mapping from each zone, the cells of `zones`, to the sum, count, mean, max or min of a layer's cells there. A mean is
-    rounded down. Zones are asked from the least to the greatest: number them without large gaps."""
+    """A mapping from each zone, the cells of `zones`, to the sum, count, mean, max or min of a layer's cells there. A
+    mean is rounded down. Zones are asked from the least to the greatest: number them without large gaps."""
     (bind, c), (of_zones, z) = expression("c", layer), expression("z", zones)
     lowest, highest = ends(session, layer)
     values = {
@@ -128,8 +128,8 @@ def stretch(session, layer):
 
 
 def histogram(session, layer, bins=256):
-    """How many cells of a layer lie in each of at most so many intervals of whole numbers, as wide as each other, from the
-    least cell to the greatest: a mapping from the lowest number of each interval."""
+    """How many cells of a layer lie in each of at most so many intervals of whole numbers, as wide as each other, from
+    the least cell to the greatest: a mapping from the lowest number of each interval."""
     bind, c = expression("c", layer)
     low, high = ends(session, layer)
     width = -(-(high - low + 1) // bins)

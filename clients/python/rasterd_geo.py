@@ -1,4 +1,5 @@
-"""What a coverage does not keep of a raster, as a file beside it has it: place, reference system, and what its bands are like."""
+"""What a coverage does not keep of a raster, as a file beside it has it: place, reference system, and what its bands
+are like."""
 
 from osgeo import gdal
 

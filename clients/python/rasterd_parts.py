@@ -5,13 +5,13 @@
     raster.mean("v")                         # each server folds its parts, and the answers are joined exactly
     raster.zonal("v", "district", range(1, 7))
 
-A part is a coverage: NAME itself where one coverage has the whole raster, else NAME_0_0, NAME_0_1 and so on, a number for each
-axis. Servers that have a part of the same box are copies, and are asked in turn. Where a server does not answer, its copies
-are asked, and then all of them again until `patience` seconds have gone; then NoAnswer names the servers and the part. An
-answer is made of all parts or not at all.
+A part is a coverage: NAME itself where one coverage has the whole raster, else NAME_0_0, NAME_0_1 and so on, a number
+for each axis. Servers that have a part of the same box are copies, and are asked in turn. Where a server does not
+answer, its copies are asked, and then all of them again until `patience` seconds have gone; then NoAnswer names the
+servers and the part. An answer is made of all parts or not at all.
 
-Partial answers are computed by dask: by threads, or by the cluster of a client of dask.distributed. It needs Debian's packages
-python3-numpy and python3-dask, and python3-distributed for a cluster.
+Partial answers are computed by dask: by threads, or by the cluster of a client of dask.distributed. It needs Debian's
+packages python3-numpy and python3-dask, and python3-distributed for a cluster.
 """
 
 import bisect
@@ -142,7 +142,8 @@ def slabs(part, most):
 
 
 class Layout:
-    """Where parts lie: the edges of the parts on each axis, and which part is between them. Each cell has exactly one."""
+    """Where parts lie: the edges of the parts on each axis, and which part is between them. Each cell has exactly
+    one."""
 
     def __init__(self, name, parts):
         if len({tuple(it.domain) for it in parts}) > 1:
@@ -218,7 +219,8 @@ def load(path, patience=PATIENCE):
 
 
 class Raster:
-    """A raster in parts. Its folds are exact: of integers of any size, and a mean is one division of a sum by a count."""
+    """A raster in parts. Its folds are exact: of integers of any size, and a mean is one division of a sum by a
+    count."""
 
     def __init__(self, name, fields, parts, patience=PATIENCE):
         self.name, self.fields, self.patience = name, fields, patience
@@ -272,8 +274,8 @@ class Raster:
     # Folds where the cells are
 
     def partial(self, query, most=MOST_POINTS):
-        """The numbers of a query of each box of each part, each with at most so many cells; copies share a part's boxes. A
-        server answers one request at a time, so those to one server are one task of dask."""
+        """The numbers of a query of each box of each part, each with at most so many cells; copies share a part's
+        boxes. A server answers one request at a time, so those to one server are one task of dask."""
         tasks = {}
         for part in self.parts:
             share = -(-rasterd.points_of(part.domain) // len(part.servers))
@@ -314,8 +316,8 @@ class Raster:
         return dict(zip(range(lo, hi + 1), map(sum, zip(*found))))
 
     def zonal(self, field, zone, zones, of=None):
-        """The number of cells and the sum of a field in each zone, by the zone: values that follow one another of the field
-        `zone`, of this raster or of another one, which is cut alike over the same servers."""
+        """The number of cells and the sum of a field in each zone, by the zone: values that follow one another of the
+        field `zone`, of this raster or of another one, which is cut alike over the same servers."""
         lo, hi, of = zones[0], zones[-1], of or self
         beside = of.beside(self)
 
@@ -331,7 +333,8 @@ class Raster:
         return dict(zip(range(lo, hi + 1), zip(joined[::2], joined[1::2])))
 
     def beside(self, other):
-        """The coverage of this raster that lies at the same servers as each coverage of another one, and has its box."""
+        """The coverage of this raster that lies at the same servers as each coverage of another one, and has its
+        box."""
         found = {}
         for part in other.parts:
             own = [it for it in self.parts if it.domain == part.domain and set(part.servers) <= set(it.servers)]
@@ -346,8 +349,8 @@ def typed(part, field, box, kind, patience, turn):
 
 
 def focal_sum(array, radius):
-    """The sum of the cells at most so far away on each axis, as an array of dask: chunks lend each other their edges, also
-    where another server has the neighbour, and a window ends where the raster does."""
+    """The sum of the cells at most so far away on each axis, as an array of dask: chunks lend each other their edges,
+    also where another server has the neighbour, and a window ends where the raster does."""
 
     def summed(block):
         for axis in range(block.ndim):
@@ -362,8 +365,8 @@ def focal_sum(array, radius):
 
 
 def cut(domain, count):
-    """A box in so many parts or a few more, in whole tiles, none of which is larger than a coverage may be; and of each part
-    its place on each axis."""
+    """A box in so many parts or a few more, in whole tiles, none of which is larger than a coverage may be; and of each
+    part its place on each axis."""
     pieces, tile = {axis: 1 for axis in domain}, TILE[len(domain)]
 
     def length(axis):

@@ -1,13 +1,13 @@
 #!/usr/bin/env python3
-"""What to change after a refusal, which has a number and a name alone: where a query's text goes wrong and what could stand
-there, which key of a request is not spelled as it asks, which part of a query has the wrong type.
+"""What to change after a refusal, which has a number and a name alone: where a query's text goes wrong and what could
+stand there, which key of a request is not spelled as it asks, which part of a query has the wrong type.
 
     $ rasterd_why.py 'for c in (hill) return sqrt(max(c))'
     1:24: `sqrt` does not fit: there is no function `sqrt`; there are abs, bit, count, some, all, add, avg, min, max
 
-It knows the rules by the independent reading of the language, `oracle/` of the project. A query's text is read from left to
-right with at most three tokens of foresight, so the first token that does not fit is the first at which no query begins with
-what stands before it.
+It knows the rules by the independent reading of the language, `oracle/` of the project. A query's text is read from
+left to right with at most three tokens of foresight, so the first token that does not fit is the first at which no
+query begins with what stands before it.
 """
 
 import contextlib
@@ -562,8 +562,8 @@ TOLD = {
 
 @language.deep
 def reason(number, pairs, describe):
-    """What to change in a request that was refused by a number; None where nothing is known. `describe` gives the axes and
-    the fields of a coverage."""
+    """What to change in a request that was refused by a number; None where nothing is known. `describe` gives the axes
+    and the fields of a coverage."""
     text = str(pairs.get("query", ""))
     if 30 <= number <= 33:
         return misspelled(text)

@@ -5,12 +5,13 @@
     rasterd_xarray.to_rasterd(dataset, "rasterd://a:8001,b:8001,c:8001/terrain")
     rasterd_xarray.reduce("rasterd://a:8001,b:8001,c:8001/terrain", "mean", "v")
 
-A variable for each field, which is asked for as it is needed. With `chunks={}` they are arrays of dask whose chunks are whole
-tiles, lie in one part each, and have no more cells than one answer may. Coordinates are the server's, or those of the file that
-`rasterd-load --geo` writes. `rasterd_parts` says how parts and copies are found, and what happens where a server is down.
+A variable for each field, which is asked for as it is needed. With `chunks={}` they are arrays of dask whose chunks are
+whole tiles, lie in one part each, and have no more cells than one answer may. Coordinates are the server's, or those of
+the file that `rasterd-load --geo` writes. `rasterd_parts` says how parts and copies are found, and what happens where a
+server is down.
 
-It needs Debian's packages python3-xarray, python3-dask and python3-numpy. With this folder in PYTHONPATH xarray finds the
-engine by itself.
+It needs Debian's packages python3-xarray, python3-dask and python3-numpy. With this folder in PYTHONPATH xarray finds
+the engine by itself.
 """
 
 import json
@@ -145,7 +146,8 @@ def bounds(coordinate, size):
 
 
 def refuse_marks(name, variable):
-    """Refuses a variable of whose numbers some stand for no data, or all are scaled: a coverage has the numbers alone."""
+    """Refuses a variable of whose numbers some stand for no data, or all are scaled: a coverage has the numbers
+    alone."""
     # what was decoded has its mark in the encoding, and its scale no more
     known = variable.encoding | variable.attrs
     marks = [it for it in ("_FillValue", "missing_value") if known.get(it) is not None]
@@ -183,9 +185,9 @@ def field_types(dataset):
 
 
 def to_rasterd(data, url, patience=rasterd_parts.PATIENCE):
-    """Makes a coverage of a dataset, or of an array, cut over the servers of the URL; gives the raster. A warning names the
-    coordinates that a coverage does not keep. Where writing fails its parts are deleted, and a note on the exception says
-    which could not be, and which may be there."""
+    """Makes a coverage of a dataset, or of an array, cut over the servers of the URL; gives the raster. A warning names
+    the coordinates that a coverage does not keep. Where writing fails its parts are deleted, and a note on the
+    exception says which could not be, and which may be there."""
     if isinstance(data, xarray.DataArray):
         # an array of dask lends its array a name that no field may have
         data = data.to_dataset(name=data.name if str(data.name).isidentifier() and data.name else "v")

@@ -3,8 +3,8 @@
 
     clients/python/test.py PROGRAM [PART..]
 
-Without a part those tests run that need nothing but Python, curl and a shell. The others say what Debian packages they need,
-and fail where one of these is missing; /usr/bin/python3 has what Debian installs:
+Without a part those tests run that need nothing but Python, curl, and flock and prlimit of util-linux. The others say
+what Debian packages they need, and fail where one of these is missing; /usr/bin/python3 has what Debian installs:
 
     arrays     python3-numpy
     rasters    python3-numpy python3-gdal gdal-bin

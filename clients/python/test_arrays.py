@@ -4,8 +4,8 @@
     clients/python/test_arrays.py PROGRAM
 
 It needs Debian's packages python3-numpy, python3-xarray, python3-dask and python3-distributed, python3-rioxarray and
-python3-gdal for a raster of GDAL's, and python3-nbclient, python3-nbformat, python3-ipykernel and python3-matplotlib for the
-notebook; it says so where one is missing.
+python3-gdal for a raster of GDAL's, and python3-nbclient, python3-nbformat, python3-ipykernel and python3-matplotlib
+for the notebook; it says so where one is missing.
 """
 
 import importlib.util

@@ -3,9 +3,9 @@
 
     docs/pictures/templates.py
 
-What is drawn is what the server answers: `rasterd - run` is sent the two coverages as messages, and then is asked for their
-cells and for each template by ProcessTemplate. `rt run` in crates/rasterd builds the program. Where an answer is not that
-of the row in crates/query_tests/stdin, which is worked out by hand, nothing is drawn.
+What is drawn is what the server answers: `rasterd - run` is sent the two coverages as messages, and then is asked for
+their cells and for each template by ProcessTemplate. `rt run` in crates/rasterd builds the program. Where an answer is
+not that of the row in crates/query_tests/stdin, which is worked out by hand, nothing is drawn.
 """
 
 import os

@@ -1,4 +1,5 @@
-"""The package installed by apt in a fresh Debian of its own, made by debootstrap: what it depends on is all that it needs."""
+"""The package installed by apt in a fresh Debian of its own, made by debootstrap: what it depends on is all that it
+needs."""
 
 import os
 import subprocess

@@ -2,12 +2,13 @@
 
 import contextlib
 import socket
+import subprocess
 import tempfile
 import threading
 import unittest
 
-from over_loopback import OverLoopback, rasterd
-from served import LONGEST, until
+from over_loopback import PROGRAM, OverLoopback, rasterd
+from served import LONGEST, connected, free_port, until
 
 # How long a client waits that has to be served before the server lets a silent one go, which it does after 60 seconds.
 BEFORE_SILENCE = 50
@@ -210,6 +211,19 @@ class Jobs(OverLoopback):
         with self.assertRaises(rasterd.Refused) as raised:
             session.run("for c in (w) return max(c)", units=1, progress=take_away)
         self.assertEqual((raised.exception.number, cancelled), (70, []))
+
+    def test_the_answer_comes_on_the_connection_of_the_last_step(self):
+        """After it the run of the server ends, and its jobs with it."""
+        port = free_port()
+        with subprocess.Popen([PROGRAM, "-", "listen", str(port), "4"]) as server:
+            try:
+                connected(port, server).close()
+                session = rasterd.Session(port=port, timeout=LONGEST)
+                session.insert("w", {"x": (0, 9)}, {"v": "i16"})
+                self.assertEqual(session.run("for c in (w) return max(c)", units=1000, progress=None), "0\n")
+                self.assertEqual(server.wait(LONGEST), 0)
+            finally:
+                server.kill()
 
     def test_another_client_beside_a_job(self):
         """Between any two steps it is answered, and asks and is answered once more."""

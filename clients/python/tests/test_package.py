@@ -8,7 +8,7 @@ import tempfile
 import unittest
 
 from over_loopback import PROGRAM, TOP, rasterd
-from served import LONGEST, free_port, served
+from served import LONGEST, connected, free_port, served
 
 NEEDED = [
     "usr/bin/rasterd",
@@ -81,18 +81,22 @@ class Package(unittest.TestCase):
         """As README and the pages for man have it, with the program found by PATH."""
         port, store = free_port(), f"{self.room.name}/lai.store"
         words = ["rasterd-serve", store, str(port)]
-        with subprocess.Popen(words, env=self.environment, stderr=subprocess.PIPE, text=True) as serving:
-            while "at http" not in serving.stderr.readline():
-                self.assertIsNone(serving.poll())
-            rasterd.Session(port=port).insert("lai", {"x": (0, 9)}, {"v": "i16"})
-            ask = ["rasterd-ask", "--port", str(port)]
-            found = self.ran(*ask, "for c in (lai) return max(c)", env=self.environment)
-            self.assertEqual(found.stdout, "0\n")
-            words = [*ask, "for c in (lai) return sum(c)"]
-            found = subprocess.run(words, env=self.environment, cwd="/", capture_output=True, text=True, check=False)
-            self.assertIn("it is called `add` here", found.stderr)
-            serving.send_signal(signal.SIGTERM)
-            self.assertEqual(serving.wait(LONGEST), 0)
+        with subprocess.Popen(words, env=self.environment) as serving:
+            try:
+                connected(port, serving).close()
+                rasterd.Session(port=port).insert("lai", {"x": (0, 9)}, {"v": "i16"})
+                ask = ["rasterd-ask", "--port", str(port)]
+                found = self.ran(*ask, "for c in (lai) return max(c)", env=self.environment)
+                self.assertEqual(found.stdout, "0\n")
+                words = [*ask, "for c in (lai) return sum(c)"]
+                found = subprocess.run(
+                    words, env=self.environment, cwd="/", capture_output=True, text=True, check=False
+                )
+                self.assertIn("it is called `add` here", found.stderr)
+                serving.send_signal(signal.SIGTERM)
+                self.assertEqual(serving.wait(LONGEST), 0)
+            finally:
+                serving.terminate()
         with open(store, "rb") as file:
             self.assertEqual(file.read(13)[12], 2)
 

@@ -1,4 +1,5 @@
-"""deploy/serve: what it says, how it stops, that one serves a file, and that nothing that was closed is lost by a kill."""
+"""deploy/serve: what it says, how it stops, that one serves a file, and that nothing that was closed is lost by a
+kill."""
 
 import atexit
 import contextlib
@@ -74,7 +75,8 @@ class Ended(AssertionError):
 
 
 def asked(script, work):
-    """What a request gives. A connection that waited where a run ended is reset and was not served: it is tried again."""
+    """What a request gives. A connection that waited where a run ended is reset and was not served: it is tried
+    again."""
     given = []
 
     def is_over():

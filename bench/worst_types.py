@@ -2,7 +2,7 @@
 """Seconds and MiB for typing the worst queries that were found, each beside the length of its text and beside a plain
 chain of 65,536 bytes.
 
-usage: bench/typing.py [the program, else crates/bench/out/bench]
+usage: bench/worst_types.py [the program, else crates/bench/out/bench]
 
 The program cuts the text into tokens, reads them as a query and types it over its own coverages; the figures are those
 of the whole process, which the first row shows without any work, where it took least of five times. `rt run` in its
@@ -172,4 +172,5 @@ def main():
         print(f"{name:58} {found:22} {len(text):7} {taken:9.3f} {memory:8.1f}", flush=True)
 
 
-main()
+if __name__ == "__main__":
+    main()
