@@ -171,10 +171,6 @@ impl<D: Disk> Blocks for BlockFile<D> {
         Ok(())
     }
 
-    fn release(&mut self, ks: &[u32]) {
-        self.give_back(ks);
-    }
-
     /// Nothing is kept here.
     fn let_go(&mut self) {}
 

@@ -77,17 +77,12 @@ pub trait Blocks {
         requires { Covers (state self.old) (times ks.now) }
         ensures { Recounts (times ks.now) none (state self.old) (state self.new) };
 
-    /// Counts one use more of each block listed, as often as it is listed: one that is given back meanwhile is free once
-    /// it is released as well. Refused for memory alone; no use is counted then.
+    /// Counts one use more of each block listed, as often as it is listed: so one that is given back once is in use still,
+    /// until it is given back once more. Refused for memory alone; no use is counted then.
     fn hold(&mut self, ks: &[u32]) -> Result<(), AllocError>
         requires { AreUsed ks.now (state self.old) }
         ensures held { OnOk result (Recounts none (times ks.now) (state self.old) (state self.new)) }
         ensures refused { OnErr result (state self.new ≡ state self.old) };
-
-    /// Gives up one use of each block listed, which was held, as often as it is listed. Takes no memory.
-    fn release(&mut self, ks: &[u32])
-        requires { Covers (state self.old) (times ks.now) }
-        ensures { Recounts (times ks.now) none (state self.old) (state self.new) };
 
     /// Lets go what memory holds of blocks so that they need not be read again. Callers see no difference. Takes no
     /// memory.

@@ -13,7 +13,7 @@ use Rattle.raster_store.specs.Views.{SnapshotView}
 use Rattle.job_desk.specs.declared.job.Job.{Job as Held}
 use Rattle.tile_exec.specs.declared.answer.Answer.TheVariants as given
 use Rattle.arr_core.specs.Numbers.{number_after}
-use Rattle.job_desk.specs.Desks.{DeskView, IsDesk, IsJob, IsFull, IsSubmitted, IsFetched, replaced}
+use Rattle.job_desk.specs.Desks.{DeskView, IsDesk, IsFull, IsSubmitted, IsFetched, replaced}
 use Rattle.tile_exec.specs.Answering.{IsAnswer}
 use Rattle.job_desk.specs.Desks as desks
 use Rattle.job_desk.specs.Steps.{IsRefusedFetch, IsRefusedSubmit}
@@ -33,13 +33,13 @@ use Rattle.wcps_types.specs.Work.{query_work}
 use Rattle.http_front.specs.declared.reply.Reply.{Reply}
 use Rattle.http_front.specs.declared.reply.Reply.TheVariants.{Text, Csv, Refused}
 use Rattle.coverage_server.specs.declared.error.AnswerError.{AnswerError}
-use Rattle.coverage_server.specs.declared.error.AnswerError.TheVariants.{Named, NoMemory, DiskFault, NoRoom, Damaged}
+use Rattle.coverage_server.specs.declared.error.AnswerError.TheVariants.{NoMemory}
 use Rattle.coverage_server.specs.Answered.{AnsweredIn, Moves, Never}
 use Rattle.coverage_server.specs.Asking.{QueryAnswer, cells_of, items_answer, evaluated, TextTyped}
 use Rattle.coverage_server.specs.Machine.{Job, State, job_of, with_left, without, with_jobs, Refuses, Unless, Adds, Tells, Submits, Fetches, Cancels}
 use Rattle.coverage_server.specs.Holding.{AreHeldOnce, HoldsFor, ReleasesFor, IsHolding}
 use Rattle.coverage_server.specs.Represents.{IsReading, StandsAs, AreJobs, Represents}
-use Rattle.coverage_server.specs.Stages.{GivesText, IsTypedText, submit_refusal, fetch_refusal}
+use Rattle.coverage_server.specs.Stages.{IsTypedText, submit_refusal, fetch_refusal}
 use Rattle.coverage_server.specs.Fetching.{IsPlanOf}
 use Rattle.coverage_server.specs.Views.{IsHeld, ServerView, SessionView, session}
 use Rattle.coverage_server.proofs.HeldLemmas.{Finds, finds_push, finds_left, found_last}
@@ -257,14 +257,6 @@ submit_holds v w old new q plan names number left p named x none holds held was 
 module _ (v : ServerView) (text : List ℕ) (old : DeskView) where
   abbrev here : SessionView
   here = session v old
-
-  pub submit_refused : (e : AnswerError) → GivesText v.store text (Err e) → AnsweredIn (Submits text) ⊥ Never here here (Err e)
-  submit_refused (Named refusal) x =
-      λ sure s r. (s, r, (Err refusal, subst (λ (o : Store). TextTyped o text (Err refusal)) (sym r.store) x, (refl, refl)))
-  submit_refused NoMemory x = λ sure s r. r
-  submit_refused DiskFault x = absurd x
-  submit_refused NoRoom x = absurd x
-  submit_refused Damaged x = absurd x
 
   module _ (q : TypedTree) (typed : IsTypedText v.store text q) where
     typed_at : (s : State) → Represents here s → TextTyped s.store text (Ok q)

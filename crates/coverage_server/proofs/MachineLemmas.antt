@@ -4,7 +4,7 @@ use Rattle.std.specs.Prelude.{◌⊎◌, IsSomeAnd, MatchOption, String, string_
 use Rattle.std.specs.declared.alloc.Global.{Global}
 use Rattle.std.specs.List.{flat_map}
 use Rattle.arr_core.specs.declared.refusal.Refusal.{Refusal}
-use Rattle.arr_core.specs.declared.refusal.Refusal.TheVariants.{BadDomain, BadField, CoverageExists, NoSuchCoverage, NoSuchField, OutsideDomain, TooManyCoverages}
+use Rattle.arr_core.specs.declared.refusal.Refusal.TheVariants.{BadDomain, BadField, OutsideDomain, TooManyCoverages}
 use Rattle.arr_core.specs.Refusals.{number_of}
 use Rattle.arr_core.specs.declared.cell.FieldType.{FieldType}
 use Rattle.arr_core.specs.declared.domain.Axis.{Axis}
@@ -32,9 +32,6 @@ at_nothing : {X : Type 0} (o : Option X) (P : Type 0) (Q : X → Type 0) → o �
 at_nothing o P Q e p = subst (λ (y : Option _). MatchOption y P Q) (sym e) p
 
 module _ (name : List ℕ) (intervals : List Interval) (fields : List Field) (old : Store) where
-  pub taken_name : (c : Coverage) → found name old ≡ Some c → Inserts name intervals fields old (Refused (number_of CoverageExists)) old
-  taken_name c e = at_this (found name old) c _ _ e (refl, refl)
-
   pub no_domain : found name old ≡ None → ¬ (SpellWhole intervals) → Inserts name intervals fields old (Refused (number_of BadDomain)) old
   no_domain e none = at_nothing (found name old) _ _ e (inl (none, (refl, refl)))
 
@@ -71,13 +68,7 @@ said_of None x P e h = absurd cc
 said_of (Some y) x P e h = let same : y ≡ x = cc in subst P same h
 
 module _ (name field : List ℕ) (intervals : List Interval) (cells : Cells) (old : Store) where
-  pub no_coverage : found name old ≡ None → Updates name field intervals cells old (Refused (number_of NoSuchCoverage)) old
-  no_coverage e = at_nothing (found name old) _ _ e (refl, refl)
-
   module _ (c : Coverage) (at : found name old ≡ Some c) where
-    pub no_field : field_place field c.fields ≡ None → Updates name field intervals cells old (Refused (number_of NoSuchField)) old
-    no_field e = at_this (found name old) c _ _ at (at_nothing (field_place field c.fields) _ _ e (refl, refl))
-
     module _ (k : ℕ) (f : Field) (place : field_place field c.fields ≡ Some k) (is : slice_get c.fields k ≡ Some f) where
       pub no_box : ¬ (SpellDomain intervals × IsBoxOf c.domain (axes_of intervals)) → Updates name field intervals cells old (Refused (number_of OutsideDomain)) old
       no_box none = at_this (found name old) c _ _ at (at_this (field_place field c.fields) k _ _ place (f, is, inl (none, (refl, refl))))

@@ -201,18 +201,6 @@ departs_map P Q opening.NotClosed f d = d
 block_count : (content metadata marks : List ℕ) → IsClosed content metadata → length marks ≡ max 1 (length content / 4096) → length marks ≡ length content / 4096
 block_count content metadata marks closed e = omega (arith, e, closed.header.store.whole, closed.whole)
 
--- why a layout is refused: the metadata spells none
-pub unread : (v : Version) (content metadata marks : List ℕ) → HasVersion v content → IsOpened content metadata marks → 0 < length metadata
-    → ((signatures : List Signature) (indexes : List (List Index)) → IsMetadata metadata signatures indexes → IsOfVersion v signatures indexes → ⊥) → (0 < length content) × IsNotLaidOut content
-unread v content metadata marks told o some none = (
-  elim (some_bytes content) [
-    | inl e ↦ absurd (no_byte metadata (o.new_file e) some)
-    | inr h ↦ h
-  ],
-  λ m s i laid. none s i (subst (λ (l : List ℕ). IsMetadata l s i) (sym (o.unique m laid.closed)) laid.written)
-      (laid.version v (told.told (let whole = laid.closed.header.store.whole in omega (arith, whole)))),
-)
-
 -- what any layout is
 the_layout : (v : Version) (content metadata marks : List ℕ) (signatures s : List Signature) (indexes i : List (List Index)) (m : List ℕ) → HasVersion v content → IsOpened content metadata marks → 0 < length content
     → IsListed v metadata signatures indexes → IsLaidOut content m s i → (s ≡ signatures) × (i ≡ indexes)

@@ -146,14 +146,7 @@ module _ (all some : List Signature) (text : List ℕ) (s : Signature) (is : lis
       by_found (inl h) = after text None true h (listed_name text all s is) ∙ sym is
       by_found (inr h) = push_stays text h
 
--- a name that is found nowhere, or is among them already
-pub found_nowhere : (all some : List Signature) (text : List ℕ) → AreAmong all some → listed text all ≡ None → IsFoundIn all some text
-found_nowhere all some text among none = by_found (among text)
-  where
-    by_found : (listed text some ≡ None) ⊎ IsFoundIn all some text → IsFoundIn all some text
-    by_found (inl h) = h ∙ sym none
-    by_found (inr h) = h
-
+-- a name that is among them already
 pub found_already : (all some : List Signature) (text : List ℕ) → AreAmong all some → list_any (λ (s : Signature). bytes_eq s.name text) some ≡ true → IsFoundIn all some text
 found_already all some text among t = by_found (among text)
   where

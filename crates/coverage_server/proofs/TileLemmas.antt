@@ -1,7 +1,7 @@
 -- The numbers of a tile are the cells that are read there, and the coverages that are read are those at their places.
 use Rattle.std.proofs.Common.{◌≡◌, ℕ, zero, suc, ◌<◌, ◌≤◌, nat_eq, cond, ◌++◌, Bool, true, false, ◌&&◌, nat_lt, ℤ, ◌≤ℤ◌, T, List, [], ◌∷◌, length, map, get_or, Option, None, Some, Err, refl, sym, ap, ◌∙◌, subst, arith}
 use Rattle.std.specs.Prelude.{All, IfSome, IfNone, IsErrOf, IsSomeAnd, IsTrue, int_le, slice_get, slice_index_or, option_and_then}
-use Rattle.std.proofs.lemmas.Bool.{lt-ltb, eqb-true}
+use Rattle.std.proofs.lemmas.Bool.{lt-ltb}
 use Rattle.std.proofs.lemmas.List.{map-append}
 use Rattle.std.proofs.lemmas.List.Elements.{All-head, All-tail, All-cons, All-nil}
 use mathlib.Core.Path.{fun_ext}
@@ -294,14 +294,6 @@ intact_at content store indexes at has all = tile_spelled content store indexes 
 
 -- ---- what a number reads
 
--- where a coverage is held there is something that the number reads
-pub reads_some : (job : ℕ) (v : ServerView) (s : Signature) → IsHeld (store_for job v) s → held_for job v.held ≡ None → job ≡ 0
-reads_some job v s held none = by_zero (nat_eq job 0) refl (subst (λ (o : Option SnapshotView). IsHeld (held_or o (cond (nat_eq job 0) v.store [])) s) none held)
-  where
-    by_zero : (b : Bool) → nat_eq job 0 ≡ b → IsHeld (cond b v.store []) s → job ≡ 0
-    by_zero true t h = eqb-true job 0 t
-    by_zero false t h = absurd h
-
 -- number 0 reads the store where nothing is held for it
 pub reads_store : (v : ServerView) → held_for 0 v.held ≡ None → store_for 0 v ≡ v.store
 reads_store v none = rw none refl
@@ -457,10 +449,6 @@ held_spoils v n places some bad = by_held (held_for n v.held) some bad
     by_held (Some x) h f = λ all. f (λ k d l. all (get_or places k d))
 
 -- ---- what is said of what is found
-
-pub some_map : {X : Type 0} (o : Option X) {P Q : X → Type 0} → ((x : X) → P x → Q x) → IsSomeAnd o P → IsSomeAnd o Q
-some_map None f h = absurd h
-some_map (Some x) f h = f x h
 
 pub some_both : {X : Type 0} (o : Option X) {P Q R : X → Type 0} → ((x : X) → P x → Q x → R x) → IsSomeAnd o P → IsSomeAnd o Q → IsSomeAnd o R
 some_both None f h k = absurd h

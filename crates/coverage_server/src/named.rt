@@ -15,7 +15,7 @@ use arr_core::Signature;
 use disk_face::Disk;
 use map_templates::Params;
 use std::alloc::{AllocError, Global};
-use wcps_text::{Binding, Query, QueryName};
+use wcps_text::{Query, QueryName};
 
 /// Whether a text is the name of one of some coverages.
 fn is_named(signatures: &[Signature], text: &str) -> bool

@@ -16,7 +16,7 @@ ghost use Rattle.coverage_server.specs.Sessions.{IsOpenedFrom, LeavesUnopened};
 use crate::cells::AskedCells;
 use crate::coverages::Coverages;
 use crate::server::Server;
-use block_file::{BlockFile, Blocks, CHAIN_BYTES, NotOpened, OpenFault, Opened, State};
+use block_file::{BlockFile, Blocks, CHAIN_BYTES, NotOpened, OpenFault, Opened};
 use catalogue::Catalogue;
 use disk_face::Disk;
 use file_bytes::{ReadError, Version};

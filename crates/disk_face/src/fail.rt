@@ -8,7 +8,7 @@ use std::marker::Model;
 
 /// A disk in memory and how many calls are left until one fails: reads, writes and syncs count, and 0 stands for
 /// none. The call that fails is counted, and no other fails by itself. A write that fails writes the first half of
-/// its bytes.
+/// its bytes, and of one byte none.
 #[derive(Drop)]
 pub struct FailDisk {
     disk: MemDisk,
@@ -94,7 +94,9 @@ impl Disk for FailDisk {
         ensures told { Tells (IsErr result) self.old.failures self.new.failures }
     {
         if self.is_due() {
-            let _half = self.disk.write_at(at, &bytes[..bytes.len() / 2]);
+            if bytes.len() > 1 {
+                let _half = self.disk.write_at(at, &bytes[..bytes.len() / 2]);
+            }
             return Err(self.disk.refuse());
         }
         self.disk.write_at(at, bytes)

@@ -182,11 +182,11 @@ impl<F: RawFile> Disk for FileDisk<F> {
         Ok(())
     }
 
-    /// No bytes are written past the end: that does not lengthen a file. Else it fails only past 64 bits, or where the
-    /// disk is broken or the system refused a call or took nothing.
+    /// Fails only past 64 bits, or where the disk is broken or the system refused a call or took nothing.
     fn write_at(&mut self, at: u64, bytes: &[u8]) -> Result<(), DiskFault>
+        requires { 0 < length bytes.now }
         ensures written { OnOk result (Writes self.old.honest at bytes.now self.old.content self.new.content) }
-        ensures done { Works self.old → 0 < length bytes.now → at + length bytes.now < 2 ^ 64 → IsOk result }
+        ensures done { Works self.old → at + length bytes.now < 2 ^ 64 → IsOk result }
         ensures inside { Works self.old → IfInside self.old.honest at bytes.now self.old.content (IsOk result) }
         ensures works { Works self.old → Works self.new }
         ensures torn { Torn at (length bytes.now) self.old.content self.new.content }
@@ -196,12 +196,6 @@ impl<F: RawFile> Disk for FileDisk<F> {
     {
         if self.is_broken {
             return Err(self.refuse());
-        }
-        if bytes.is_empty() {
-            if at > self.known {
-                return Err(self.refuse());
-            }
-            return Ok(());
         }
         let Some(end) = at.checked_add(bytes.len() as u64) else {
             return Err(self.refuse());

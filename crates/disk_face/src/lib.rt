@@ -3,7 +3,7 @@
 //! the reads past the end, and whether it gives back what was written.
 #![tactic(auto)]
 
-ghost use Rattle.std.specs.Prelude.{◌≡◌, ℕ, Bool, List, length, IsTrue, IsErr, OnOk, OnErr};
+ghost use Rattle.std.specs.Prelude.{◌≡◌, ◌<◌, ℕ, Bool, List, length, IsTrue, IsErr, OnOk, OnErr};
 ghost use Rattle.disk_face.specs.Disk.{IfInside, Holds, Torn, Writes, Tells, Unwritten};
 
 mod fail;
@@ -53,9 +53,10 @@ pub trait Disk {
         ensures overreads { IfInside (honest self.old) at buf.old (content self.old) (overreads self.new ≡ overreads self.old) }
         ensures told { Tells (IsErr result) (failures self.old) (failures self.new) };
 
-    /// Writes the bytes from `at` on. A write past the end fills the gap with zeros. One that fails leaves any
-    /// bytes in its range and the gap, and the others as they were.
+    /// Writes the bytes, of which there is one at least, from `at` on. A write past the end fills the gap with zeros. One
+    /// that fails leaves any bytes in its range and the gap, and the others as they were.
     fn write_at(&mut self, at: u64, bytes: &[u8]) -> Result<(), DiskFault>
+        requires { 0 < length bytes.now }
         ensures written { OnOk result (Writes (honest self.old) at bytes.now (content self.old) (content self.new)) }
         ensures torn { Torn at (length bytes.now) (content self.old) (content self.new) }
         ensures torn_synced { Torn at (length bytes.now) (synced self.old) (synced self.new) }

@@ -1,5 +1,5 @@
 -- Look-ups among the pages of a cache.
-use Rattle.std.proofs.Common.{◌≡◌, ◌≢◌, ℕ, ◌-◌, Bool, true, false, List, [], ◌∷◌, Option, Some, None, IsSome, nat_eq, take, zero, suc, cond, refl, sym, ◌∙◌, ap, ◌⊎◌, inl, inr, Result, Ok, Err, OnOk, OnErr}
+use Rattle.std.proofs.Common.{◌≡◌, ◌≢◌, ℕ, ◌-◌, true, false, List, [], ◌∷◌, Option, Some, None, IsSome, nat_eq, take, zero, suc, cond, refl, sym, ◌∙◌, ap, ◌⊎◌, inl, inr, Result, Ok, Err, OnOk, OnErr}
 use Rattle.std.specs.Cmp.{nat_eq_equiv}
 use Rattle.std.specs.List.{IsDistinct}
 use Rattle.std.specs.Option.{option_map_or}
@@ -7,7 +7,7 @@ use Rattle.std.specs.Map.{keys_of, lookup, lookup_entry, remove_entry, set_value
 use Rattle.std.proofs.lemmas.Bool.{eqb-true, ne_eqb}
 use Rattle.std.proofs.lemmas.Map.{lookup-remove_entry, lookup-set_value}
 use Rattle.lru.specs.LruCache.{LruCache, lru_cache, promoted, put_entries}
-use Rattle.page_pool.specs.Pages.{page_of, SamePages, NoneAdded, Forgets, Renews, ArePages}
+use Rattle.page_pool.specs.Pages.{page_of, SamePages, NoneAdded, Forgets, Renews}
 
 same_test : (k x y : ℕ) → nat_eq k x ≡ true → nat_eq k y ≡ nat_eq x y
 same_test k x y t = ap (λ n. nat_eq n y) (eqb-true k x t)
@@ -107,13 +107,3 @@ forgets_removed k es distinct = record {
   gone = rw (itself k) at (lookup-remove_entry nat_eq_equiv (nat_eq k) (same_test k) k es distinct);
   others = λ j ne. rw (apart j k ne) at (lookup-remove_entry nat_eq_equiv (nat_eq k) (same_test k) j es distinct);
 }
-
--- pages in another order, or fewer
-pub are_pages_of : (content : List ℕ) (honest : Bool) (old new : List (ℕ × List ℕ)) → NoneAdded old new → ArePages content honest old → ArePages content honest new
-are_pages_of content honest old new added pages = record {
-  whole = λ k page found. pages.whole k page (added k page found);
-  held = λ true k page found. pages.held true k page (added k page found);
-}
-
-pub are_same : (content : List ℕ) (honest : Bool) (old new : List (ℕ × List ℕ)) → SamePages old new → ArePages content honest old → ArePages content honest new
-are_same content honest old new same = are_pages_of content honest old new (λ k page found. sym (same k) ∙ found)

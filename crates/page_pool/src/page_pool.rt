@@ -98,10 +98,6 @@ impl<D: Disk> Blocks for PagePool<D> {
         self.file.hold(ks)
     }
 
-    fn release(&mut self, ks: &[u32]) {
-        self.file.release(ks);
-    }
-
     /// No page is kept from now on.
     fn let_go(&mut self) {
         self.pages.let_go();

@@ -23,7 +23,7 @@ use Rattle.tile_store.specs.Listing.{IsBelow, IsSound}
 use Rattle.tile_store.specs.declared.field.FieldTiles.{FieldTiles}
 use Rattle.tile_store.specs.Picking.{picked}
 use Rattle.tile_store.specs.Reading.{number_in, ArePicked, IsSpelledIn, IsTileRead}
-use Rattle.tile_store.specs.Stored.{field_values, number_at, IsSpelled, IsTileSpelled}
+use Rattle.tile_store.specs.Stored.{field_values, number_at, IsTileSpelled}
 use Rattle.raster_store.specs.declared.held.Held.{Held}
 use Rattle.raster_store.specs.declared.reading.TileAt.{TileAt}
 use Rattle.raster_store.specs.Views.{FieldsIntact, AreIntact, listed_fields, Index}
@@ -183,12 +183,6 @@ module _ {s : BlocksState} {held : List Held} {o : Option Coverage} {h : Held} {
       let r = get_or ranks k d in
       let below : r < count area = within k d l in
       rw (at_place area r [] below) (number_is (point_at area r) (box_inside h.signature.domain area (point_at area r) box (point-inside area r below ordered))))
-
-  -- in an intact store each tile is spelled
-  pub intact_tile : AreIntact s.content (coverages_of s.content held) (indexes_of held) → (tile : ℕ) → IsSpelledIn f s tile
-  unfolding IsSpelled
-  intact_tile all tile =
-      rw (is.domain, is.index) ((values-at s.content h.signature.domain h.signature.fields h.fields.items j f.kind is.kind at.indexed).1 (at.facts.intact all) tile)
 
 -- a tile of the coverage at its place
 pub record Placed (s : BlocksState) (held : List Held) (at : TileAt) (h : Held) : Type 0 where

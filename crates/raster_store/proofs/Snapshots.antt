@@ -3,7 +3,6 @@ use Rattle.std.proofs.Common.{◌≡◌, ℕ, zero, suc, ◌+◌, ◌<◌, ◌�
 use Rattle.std.specs.Prelude.{ℤ, slice_get, IsSomeAnd, option_map}
 use Rattle.std.specs.List.{remove, position_or_len}
 use Rattle.std.proofs.lemmas.Bool.{cases_lt, lt-ltb}
-use Rattle.std.proofs.lemmas.List.{length-map}
 use Rattle.std.proofs.lemmas.List.Elements.{All-head, All-tail, All-cons, All-push, All-append, All-take, All-drop, recursion_from_All}
 use Rattle.std.proofs.lemmas.List.Quantifiers.{position-Some}
 use Rattle.std.proofs.lemmas.List.Sums.{sum_by-cons, sum_by_push, sum_by_more, sum_by-remove, sum_by-take-le, fails_before_first}
@@ -23,7 +22,6 @@ use Rattle.raster_store.specs.Holding.{coverages_of, indexes_of, IsHeld, NoneNam
 use Rattle.raster_store.specs.Snapshots.{held_for, without_job, AreNames, AreSameSnapshots, AreIntactSnapshots}
 use Rattle.raster_store.proofs.Contents.{KeepsAll, store_kept, found_none}
 use Rattle.raster_store.proofs.Totals.{sums}
-use Rattle.raster_store.proofs.Readings.{some_within}
 use Rattle.raster_store.proofs.Writes.{same_signatures}
 
 -- ---- sums
@@ -255,20 +253,6 @@ at_job own s xs job place x are at is =
       held = snapshot_at own s xs place x are within is;
       found = (held_there s.content job xs place at).0 ∙ slice_get-map (snapshot_of s.content) xs place ∙ ap (option_map (snapshot_of s.content)) (slice_get_read xs (length xs) place x refl within is);
     }
-
--- what is held at a place
-pub record AtPlace (s : BlocksState) (xs : List Snapshot) (place : ℕ) (x : Snapshot) : Type 0 where
-  pub held : IsHeld s x.coverages.items
-  pub found : slice_get (snapshots_of s.content xs) place ≡ Some (snapshot_of s.content x)
-
-pub at_place : (own : ℕ → ℕ) (s : BlocksState) (xs : List Snapshot) (place : ℕ) (x : Snapshot) → AreSnapshots own s xs → place < length xs → x ≡ get_or xs place x → AtPlace s xs place x
-at_place own s xs place x are within is = record {
-  held = snapshot_at own s xs place x are within is;
-  found = slice_get-map (snapshot_of s.content) xs place ∙ ap (option_map (snapshot_of s.content)) (slice_get_read xs (length xs) place x refl within is);
-}
-
-pub place_held : (content : List ℕ) (place : ℕ) (xs : List Snapshot) (P : SnapshotView → Type 0) → IsSomeAnd (slice_get (snapshots_of content xs) place) P → place < length xs
-place_held content place xs P has = omega (arith, length-map xs (snapshot_of content), some_within (snapshots_of content xs) place P has)
 
 pub the_held : (job : ℕ) (xs : List Snapshot) (place : ℕ) → IsHeldAt job xs place → (x : Snapshot) × (x ≡ get_or xs place x)
 the_held job [] place is = absurd is

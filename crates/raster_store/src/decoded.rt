@@ -72,6 +72,22 @@ fn place_of(at: TileKey) -> usize
     place as usize
 }
 
+/// No tile, and no place for one.
+fn without_room(alloc: Global) -> DecodedTiles
+    ensures { result ≡ nothing }
+{
+    DecodedTiles {
+        kept: None,
+        read: Vec::new(alloc),
+        expected: 0,
+        fresh: None,
+        served: false,
+        given: None,
+        gives: true,
+        tested: Vec::new(alloc),
+    }
+}
+
 /// No tile, and the places for keys.
 fn empty(alloc: Global, count: NonZeroUsize) -> Result<DecodedTiles, AllocError>
     ensures { IfOk result (λ tiles. tiles ≡ nothing) }
@@ -81,18 +97,10 @@ fn empty(alloc: Global, count: NonZeroUsize) -> Result<DecodedTiles, AllocError>
         field: 0,
         tile: 0,
     };
-    let read = vec![in alloc; first; NOTED]?;
-    let kept = LruCache::sparse(alloc, count)?;
-    Ok(DecodedTiles {
-        kept: Some(kept),
-        read,
-        expected: 0,
-        fresh: None,
-        served: false,
-        given: None,
-        gives: true,
-        tested: Vec::new(alloc),
-    })
+    let mut tiles = without_room(alloc);
+    tiles.read = vec![in alloc; first; NOTED]?;
+    tiles.kept = Some(LruCache::sparse(alloc, count)?);
+    Ok(tiles)
 }
 
 impl DecodedTiles {
@@ -105,30 +113,14 @@ impl DecodedTiles {
                 return tiles;
             }
         }
-        DecodedTiles {
-            kept: None,
-            read: Vec::new(alloc),
-            expected: 0,
-            fresh: None,
-            served: false,
-            given: None,
-            gives: true,
-            tested: Vec::new(alloc),
-        }
+        without_room(alloc)
     }
 
     /// Drops the tiles, and keeps none from now on, and drops the marks. Takes no memory.
     pub(crate) fn let_go(&mut self, alloc: Global)
         ensures { self.new ≡ nothing }
     {
-        self.kept = None;
-        self.read = Vec::new(alloc);
-        self.expected = 0;
-        self.fresh = None;
-        self.served = false;
-        self.given = None;
-        self.gives = true;
-        self.tested = Vec::new(alloc);
+        *self = without_room(alloc);
     }
 
     /// Copies the cells of a tile into a buffer, whatever that held before, where the tile is kept, which it tells.

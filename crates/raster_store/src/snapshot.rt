@@ -8,11 +8,11 @@ ghost use Rattle.raster_store.specs.Views.{listed_fields, listed_all};
 ghost use Rattle.raster_store.specs.Holding.{indexes_of, coverages_for, AreApart, NoneNamed, NoneHeld, IsHeldAt};
 ghost use Rattle.raster_store.specs.Copying.{AreCopiesOf, AddsCopy};
 
-use crate::held::{Held, named, place_of};
+use crate::held::{Held, give_back_fields, named, place_of};
 use arr_core::Name;
 use block_file::Blocks;
 use std::alloc::{AllocError, Global};
-use tile_store::{FieldIndex, release};
+use tile_store::FieldIndex;
 
 /// The coverages that are held for a job, as they were when it began to hold them.
 #[derive(Drop)]
@@ -111,23 +111,12 @@ pub(crate) fn blocks_of(alloc: Global, held: &[Held]) -> Result<Vec<u32>, AllocE
     Ok(blocks)
 }
 
-/// Releases the blocks of all tiles of fields.
-#[tactic(auto, unfolding(crate::specs::Views::listed_fields), using(std::proofs::lemmas::List::Sums::sum_by_more))]
-fn release_fields<B: Blocks>(blocks: &mut B, fields: &[FieldIndex])
-    requires { Covers (B.state blocks.old) (listed_fields fields.now) }
-    ensures { Recounts (listed_fields fields.now) none (B.state blocks.old) (B.state blocks.new) }
-{
-    for field in fields {
-        release(blocks, field);
-    }
-}
-
-/// Releases the blocks of all tiles of coverages.
+/// Gives back the blocks of all tiles of coverages.
 pub(crate) fn release_all<B: Blocks>(blocks: &mut B, held: &[Held])
     requires { Covers (B.state blocks.old) (listed_all (indexes_of held.now)) }
     ensures { Recounts (listed_all (indexes_of held.now)) none (B.state blocks.old) (B.state blocks.new) }
 {
     for coverage in held {
-        release_fields(blocks, &coverage.fields);
+        give_back_fields(blocks, &coverage.fields);
     }
 }

@@ -292,17 +292,6 @@ pub fn write_area<B: Blocks>(
     Ok(())
 }
 
-/// Gives up the uses that were held of the blocks of all tiles of a field.
-pub fn release<B: Blocks>(blocks: &mut B, field: &FieldIndex)
-    requires { Covers (B.state blocks.old) (listed field.now) }
-    ensures { Recounts (listed field.now) none (B.state blocks.old) (B.state blocks.new) }
-{
-    let entries = field.index.as_slice();
-    for (_tile, entry) in entries {
-        blocks.release(entry.blocks.as_slice());
-    }
-}
-
 /// Gives back the blocks of all tiles of a field: one use of each for each time that it is listed.
 pub fn give_back<B: Blocks>(blocks: &mut B, field: &FieldIndex)
     requires { Covers (B.state blocks.old) (listed field.now) }

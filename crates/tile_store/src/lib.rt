@@ -15,7 +15,7 @@ mod update;
 
 pub use fault::Fault;
 pub use field::{
-    FieldIndex, FieldTiles, give_back, read_area, read_point, read_tile_into, release, write_area,
+    FieldIndex, FieldTiles, give_back, read_area, read_point, read_tile_into, write_area,
 };
 pub use numbers::{Numbers, Patch};
 pub use picking::pick_tile_into;

@@ -120,8 +120,8 @@ impl Volume {
         answer.say("ok");
     }
 
-    /// Takes so many blocks, holds them, gives them back, takes as many others, which it tells, and releases the first:
-    /// after each how many are free. No block that was taken has a name any more.
+    /// Takes so many blocks, holds them, gives them back, takes as many others, which it tells, and gives the first back
+    /// once more: after each how many are free. No block that was taken has a name any more.
     fn hold(&mut self, answer: &mut Answer, count: usize) -> Result<(), TakeFault> {
         self.taken.clear();
         let taken = self.file.take(count)?;
@@ -135,7 +135,7 @@ impl Volume {
         say_blocks(answer, &others);
         answer.say(" ");
         say_free(answer, self.file.free());
-        self.file.release(held);
+        self.file.give_back(held);
         answer.count(u64::from(self.file.free()));
         Ok(())
     }

@@ -123,6 +123,9 @@ fn write<D: Disk>(
 ) -> Result<()> {
     let (at, words) = cut(words);
     let bytes = files.bytes(alloc, words)?;
+    if bytes.is_empty() {
+        bail!("no bytes");
+    }
     say_done(answer, disk.write_at(number(at), &bytes));
     Ok(())
 }

@@ -1,8 +1,6 @@
 use Rattle.std.proofs.Common.{arith, rules}
 use Rattle.std.proofs.lemmas.Grind.{common_steps}
 use Rattle.raster_store.specs.Views.{listed_fields}
-use Rattle.raster_store.specs.Views.{listed_fields}
-use Rattle.raster_store.specs.Views.{listed_fields}
 use Rattle.raster_store.proofs.held.give_back_fields.Goals as goal
 
 pub returns : goal.returns

@@ -1,7 +1,6 @@
 -- Behind what went out before goes the text, or a first part of it where the write fails.
 use Rattle.std.proofs.Common.{◌≡◌, true, rules}
 use Rattle.stream_face.proofs.SentLemmas.{Sent-after}
-use Rattle.rasterd.proofs.LineLemmas.{prefix_longer}
 use Rattle.rasterd.proofs.lines.put.Goals as goal
 
 pub returns : goal.returns

@@ -1,7 +1,6 @@
 use Rattle.std.proofs.Common.{arith}
 use Rattle.std.proofs.lemmas.Grind.{common_steps}
 use Rattle.raster_store.proofs.Cells.{stored_same}
-use Rattle.raster_store.proofs.Cells.{stored_same}
 use Rattle.raster_store.proofs.store.RasterStore.fill_box.Goals as goal
 
 pub returns-clause-same : goal.returns-clause-same

@@ -13,4 +13,4 @@ pub invariant_of-self-in_err-others : goal.invariant_of-self-in_err-others
 invariant_of-self-in_err-others c = fresh_none _ (state_of c.take-2.new.self) c.clear.ensures.items
 
 pub invariant_of-self-2 : goal.invariant_of-self-2
-invariant_of-self-2 c = fresh_none _ (state_of c.release.new.self) c.clear.ensures.items
+invariant_of-self-2 c = fresh_none _ (state_of c.give_back-2.new.self) c.clear.ensures.items
