@@ -42,7 +42,8 @@ keyword_text words.ImageCrsDomain = codes "imageCrsDomain"
 abbrev pub all_keywords : List Keyword
 all_keywords =
     words.For ∷ words.In ∷ words.Where ∷ words.Return ∷ words.Encode ∷ words.Csv ∷ words.Coverage ∷ words.Over
-    ∷ words.Values ∷ words.Value ∷ words.List ∷ words.Condense ∷ words.Using ∷ words.And ∷ words.Or ∷ words.Xor ∷ words.Not
+    ∷ words.Values ∷ words.Value ∷ words.List ∷ words.Condense ∷ words.Using ∷ words.And ∷ words.Or ∷ words.Xor ∷
+    words.Not
     ∷ words.Abs ∷ words.Bit ∷ words.True ∷ words.False ∷ words.Count ∷ words.Some ∷ words.All ∷ words.Add ∷ words.Avg
     ∷ words.Min ∷ words.Max ∷ words.ImageCrsDomain ∷ []
 

@@ -1,7 +1,7 @@
 //! Lists of axes: how many coordinates and points they have, and the places of points in row-major order, the last axis
 //! fastest.
 
-ghost use Rattle.std.specs.Prelude.{◌≡◌, ℕ, ◌+◌, ◌*◌, ◌<◌, ◌≤◌, ◌^◌, ◌≤ℤ◌, ◌+ℤ◌, pos, List, [], ◌++◌, length, OnOk};
+ghost use Rattle.std.specs.Prelude.{◌≡◌, ◌+◌, ◌*◌, ◌<◌, ◌≤◌, ◌^◌, ◌≤ℤ◌, ◌+ℤ◌, pos, [], ◌++◌, length, OnOk};
 ghost use Rattle.arr_core.specs.Domains.{gap, size_of, count as count_of, AreOrdered, rank_of, point_at};
 ghost use Rattle.arr_core.specs.Limits.{max_axes, max_points};
 
@@ -48,8 +48,8 @@ pub fn count_points(axes: &[Axis]) -> u64
     }
 }
 
-/// The place of a point in the row-major list of the axes' points, from 0; of a point outside a number that no point has
-/// to have.
+/// The place of a point in the row-major list of the axes' points, from 0; of a point outside a number that no point
+/// has to have.
 pub fn rank_of(axes: &[Axis], point: &[i32]) -> u64
     requires ordered { AreOrdered axes.now }
     requires few { count_of axes.now ≤ max_points }
@@ -67,8 +67,8 @@ pub fn rank_of(axes: &[Axis], point: &[i32]) -> u64
     }
 }
 
-/// Puts the coordinates of the point at a place of the row-major list of the axes' points, of which there are `count`, at
-/// the end of a list.
+/// Puts the coordinates of the point at a place of the row-major list of the axes' points, of which there are `count`,
+/// at the end of a list.
 pub(crate) fn push_coordinates(
     list: &mut Vec<i32>,
     axes: &[Axis],

@@ -4,9 +4,9 @@ ghost use Rattle.std.specs.Prelude.{◌≡◌, ◌+◌, ◌≤◌, ◌++◌, [],
 
 use std::alloc::{AllocError, Global};
 
-/// Numbers in order: those of 32 bits where it is narrow. Else the k-th value stands as often as the k-th count says, as
-/// far as both lists go, and without counts each value stands once. So the list of values may be longer than that of the
-/// counts, and each list be written again and again.
+/// Numbers in order: those of 32 bits where it is narrow. Else the k-th value stands as often as the k-th count says,
+/// as far as both lists go, and without counts each value stands once. So the list of values may be longer than that of
+/// the counts, and each list be written again and again.
 #[derive(Drop)]
 pub struct RunList {
     pub values: Vec<i64>,
@@ -56,8 +56,8 @@ const BLOCK: usize = 8;
 /// A run of so many cells is filled as a slice is.
 const LONG: usize = 64;
 
-/// Writes a value to so many cells from a place on. A short run is written in blocks, without a branch for each cell: what
-/// stood behind it may be lost.
+/// Writes a value to so many cells from a place on. A short run is written in blocks, without a branch for each cell:
+/// what stood behind it may be lost.
 #[inline(always)]
 pub fn write_run(cells: &mut [i64], from: usize, count: usize, value: i64)
     requires { from + count ≤ length cells.old }

@@ -18,10 +18,6 @@ AreMany is_value count xs = All is_value xs × (length xs ≡ count)
 abbrev pub AreManyRead : {X : Type 0} → (X → Type 0) → (X → List ℕ) → ℕ → List ℕ → List X → List ℕ → Type 0
 AreManyRead is_value code count bytes xs left = IsRead (AreMany is_value count) (flat_map code) bytes xs left
 
--- a catalogue of so many coverages
-abbrev pub IsCatalogueOf : ℕ → List Signature → Type 0
-IsCatalogueOf count signatures = IsCatalogue signatures × (length signatures ≡ count)
-
 -- the bytes are those of no catalogue in a file of this version
 abbrev pub AreOfNoCatalogue : Version → List ℕ → Type 0
 AreOfNoCatalogue version bytes =

@@ -2,7 +2,7 @@
 
 ghost use Rattle.std.specs.Prelude.{◌≡◌, ◌≤◌, ◌<◌, [], ◌∷◌, ◌++◌, length, slice_get, Contains, option_copied, Some, IfOk, OnOk, IfErr, OnErr, IsErrOf, IsTrue, ◌↔◌};
 ghost use Rattle.arr_core.specs.Fields.{AreFields};
-ghost use Rattle.catalogue.specs.Signatures.{names_of, listed, without, MayInsert, IsRefused, IsSignature, IsCatalogue};
+ghost use Rattle.catalogue.specs.Signatures.{names_of, listed, without, MayInsert, IsRefused, IsCatalogue};
 ghost use Rattle.catalogue.specs.Bytes.{catalogue_bytes};
 
 use crate::error::{InsertError, NoSuchCoverage};

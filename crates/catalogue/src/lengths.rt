@@ -3,10 +3,9 @@
 ghost use Rattle.std.specs.Prelude.{◌≡◌, ℕ, List, ◌+◌, ◌*◌, ◌^◌, ◌≤◌, ◌<◌, length, sum_by, All};
 ghost use Rattle.arr_core.specs.Limits.{max_name, max_axes, max_fields};
 ghost use Rattle.arr_core.specs.Names.{IsName};
-ghost use Rattle.arr_core.specs.Domains.{IsDomain};
 ghost use Rattle.arr_core.specs.Fields.{AreFields, IsField};
-ghost use Rattle.catalogue.specs.Signatures.{IsAxis, IsCoverageDomain, AreCoverageFields, IsSignature};
-ghost use Rattle.catalogue.specs.Bytes.{name_bytes, axis_bytes, domain_bytes, field_bytes, fields_bytes, signature_bytes};
+ghost use Rattle.catalogue.specs.Signatures.{IsAxis, IsSignature};
+ghost use Rattle.catalogue.specs.Bytes.{name_bytes, axis_bytes, field_bytes, signature_bytes};
 
 use arr_core::{Axis, Field, Name, Signature};
 

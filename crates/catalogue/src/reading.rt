@@ -9,7 +9,7 @@ ghost use Rattle.arr_core.specs.Fields.{IsField};
 ghost use Rattle.file_bytes.specs.Codes.{IsRead, NoneIsRead};
 ghost use Rattle.catalogue.specs.Signatures.{IsAxis, IsCoverageDomain, AreCoverageFields, IsSignature, IsCatalogue, HaveAxesOf};
 ghost use Rattle.catalogue.specs.Bytes.{name_bytes, type_number, axis_bytes, domain_bytes, field_bytes, fields_bytes, signature_bytes, catalogue_bytes};
-ghost use Rattle.catalogue.specs.Reading.{AreMany, AreManyRead, IsCatalogueOf, AreOfNoCatalogue, AreOfNoOther};
+ghost use Rattle.catalogue.specs.Reading.{AreMany, AreManyRead, AreOfNoCatalogue, AreOfNoOther};
 
 use crate::catalogue::Catalogue;
 use arr_core::domain::MAX_AXES;

@@ -1,8 +1,7 @@
 //! A catalogue as bytes.
 
-ghost use Rattle.std.specs.Prelude.{◌≡◌, ◌≤◌, ◌<◌, [], ◌∷◌, ◌++◌, length, flat_map, IfOk, OnOk};
-ghost use Rattle.arr_core.specs.Fields.{AreFields};
-ghost use Rattle.catalogue.specs.Signatures.{IsSignature, IsCatalogue};
+ghost use Rattle.std.specs.Prelude.{◌≡◌, ◌<◌, [], ◌∷◌, ◌++◌, length, IfOk, OnOk};
+ghost use Rattle.catalogue.specs.Signatures.{IsCatalogue};
 ghost use Rattle.catalogue.specs.Bytes.{name_bytes, type_number, axis_bytes, domain_bytes, field_bytes, fields_bytes, signature_bytes, catalogue_bytes};
 
 use crate::catalogue::Catalogue;

@@ -14,7 +14,8 @@ cell_text (cells.Bool false) = codes "false"
 -- what stands after the first n cells of an item, where a point has so many fields and a line so many points: within a
 -- point a space, within a line `,`, at the end of a line LF
 abbrev pub separator : ℕ → ℕ → ℕ → List ℕ
-separator fields line n = cond (nat_eq (n % fields) 0) (cond (nat_eq (n / fields % line) 0) (codes "\n") (codes ",")) (codes " ")
+separator fields line n = cond (nat_eq (n % fields) 0) (cond (nat_eq (n / fields % line) 0) (codes "\n") (codes ","))
+    (codes " ")
 
 -- the cells after the first n, each with what stands after it
 abbrev pub cells_text : ℕ → ℕ → ℕ → List Cell → List ℕ

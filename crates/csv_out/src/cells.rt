@@ -1,6 +1,6 @@
 //! The text of a few cells, written from the last one to the first, so that no number is copied.
 
-ghost use Rattle.std.specs.Prelude.{◌≡◌, ◌≢◌, ◌+◌, ◌-◌, ◌*◌, ◌/◌, ◌%◌, ◌^◌, ◌<◌, ◌≤◌, ◌++◌, ◌∷◌, [], length, drop, IsAscii};
+ghost use Rattle.std.specs.Prelude.{◌≡◌, ◌+◌, ◌-◌, ◌/◌, ◌%◌, ◌^◌, ◌<◌, ◌≤◌, ◌++◌, ◌∷◌, [], length, drop, IsAscii};
 ghost use Rattle.csv_out.specs.Csv.{cell_text, separator, cells_text};
 ghost use Rattle.csv_out.specs.Places.{IsPlace};
 

@@ -1,8 +1,8 @@
 //! CSV text: a line for each run along the last axis, `,` between its cells, a space between the fields of a cell.
 
-ghost use Rattle.std.specs.Prelude.{◌≡◌, ◌+◌, ◌<◌, ◌≤◌, ◌++◌, codes, max, length, IfOk, OnOk, slice_range, IsAscii};
+ghost use Rattle.std.specs.Prelude.{◌≡◌, ◌+◌, ◌<◌, ◌++◌, max, IfOk, OnOk, IsAscii};
 ghost use Rattle.std.specs.String.{string_bytes};
-ghost use Rattle.csv_out.specs.Csv.{item_text, csv, cells_text};
+ghost use Rattle.csv_out.specs.Csv.{item_text, csv};
 
 use crate::cells::{FEW, ROOM, Shape, write_cells};
 use std::alloc::{AllocError, Global};

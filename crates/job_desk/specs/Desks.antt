@@ -64,7 +64,8 @@ pub record IsSubmitted (tree : PlanTree) (coverages : List (List ℕ)) (n units 
 
 -- what does a plan's units came to be a job, whatever the plan is
 abbrev pub IsTakenIn : Exec → List (List ℕ) → ℕ → ℕ → DeskView → DeskView → Type 0
-IsTakenIn exec coverages n units old new = (tree : PlanTree) → IsBegun tree exec → IsSubmitted tree coverages n units old new
+IsTakenIn exec coverages n units old new =
+    (tree : PlanTree) → IsBegun tree exec → IsSubmitted tree coverages n units old new
 
 -- a job without units left was taken out, and its answer is what its plan gives over what its executor stands for
 pub record IsFetched (n : ℕ) (given : Answer) (old new : DeskView) : Type 0 where

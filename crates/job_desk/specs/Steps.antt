@@ -27,8 +27,8 @@ coverages_of j = (plan_of j.exec).coverages
 abbrev pub HasCoverages : ℕ → List Job → List Signature → Type 0
 HasCoverages n jobs coverages = IfSome (job_of n jobs) (λ (j : Job). 0 < j.left → coverages ≡ coverages_of j)
 
--- A job shows so many units less, but not below 0. Its executor does units until it has no more left than is shown. A job
--- without units left stays as it is.
+-- A job shows so many units less, but not below 0. Its executor does units until it has no more left than is shown. A
+-- job without units left stays as it is.
 pub record IsLowered {K : Type 0} (source : SourceState K) (units left : ℕ) (was is : Job) : Type 0 where
   pub same : IsSameJob source was is
   pub shown : (is.left ≡ left) × (left ≡ was.left - units)
@@ -60,9 +60,10 @@ StepReports (Ok left) spelled old new = new.failures ≡ old.failures
 StepReports (Err NoSuchJob) spelled old new = new.failures ≡ old.failures
 StepReports (Err (Cells e)) spelled old new = Tells {A = ℕ} spelled (Err e) old new
 
--- How many tiles a step fetches: for the units that it does no more than the bounds of their boxes together, and none where
--- there is no such job. How many a unit that failed has fetched is not bounded.
-abbrev pub StepFetches : {K : Type 0} → Result ℕ StepError → ℕ → DeskView → DeskView → SourceState K → SourceState K → Type 0
+-- How many tiles a step fetches: for the units that it does no more than the bounds of their boxes together, and none
+-- where there is no such job. How many a unit that failed has fetched is not bounded.
+abbrev pub StepFetches : {K : Type 0} → Result ℕ StepError → ℕ → DeskView → DeskView → SourceState K → SourceState K
+    → Type 0
 StepFetches (Ok left) n was is old new = IsChanged (λ was is. FetchesWithin was.exec is.exec old new) n was is
 StepFetches (Err NoSuchJob) n was is old new = new.fetched ≡ old.fetched
 StepFetches (Err (Cells e)) n was is old new = Unit {0}
@@ -73,8 +74,10 @@ Ends (Ok zero) same gone = gone
 Ends (Ok (suc left)) same gone = same
 Ends (Err e) same gone = same
 
--- What a step makes of the source that it reads: once it is read, a job without units left lets go of what was held for it.
-pub record StepsSource {S K : Type 0} (state : S → SourceState K) (spelled : K → Type 0) (releases : S → ℕ → S → Type 0) (result : Result ℕ StepError) (n : ℕ) (was is : DeskView) (old new : S) : Type 0 where
+-- What a step makes of the source that it reads: once it is read, a job without units left lets go of what was held for
+-- it.
+pub record StepsSource {S K : Type 0} (state : S → SourceState K) (spelled : K → Type 0) (releases : S → ℕ → S → Type 0)
+    (result : Result ℕ StepError) (n : ℕ) (was is : DeskView) (old new : S) : Type 0 where
   pub read : S
   pub reads : OnlyReads (state old) (state read)
   pub reports : StepReports result spelled (state old) (state read)

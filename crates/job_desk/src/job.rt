@@ -40,8 +40,8 @@ impl NameList {
     }
 }
 
-/// A plan under its number: the names of the coverages that it was submitted with, how many units it shows as left, and what
-/// does them. The executor may be ahead of what is shown.
+/// A plan under its number: the names of the coverages that it was submitted with, how many units it shows as left, and
+/// what does them. The executor may be ahead of what is shown.
 #[derive(Drop)]
 pub struct Job {
     pub number: u64,

@@ -1,5 +1,5 @@
 -- How bytes are cut at marks, and the pairs between them.
-use Rattle.std.proofs.Common.{◌≡◌, ℕ, ◌+◌, ◌<◌, ◌≤◌, Bool, true, false, List, [], ◌∷◌, ◌++◌, length, get_or, take, drop, map, sym, refl, ap, ◌∙◌, subst, arith, append_assoc, append-nil, length-drop}
+use Rattle.std.proofs.Common.{◌≡◌, ℕ, ◌+◌, ◌<◌, ◌≤◌, Bool, true, false, List, [], ◌∷◌, ◌++◌, length, get_or, take, drop, map, sym, refl, ap, ◌∙◌, subst, arith, append_assoc, append-nil}
 use Rattle.std.specs.Prelude.{◌==◌}
 use Rattle.std.specs.List.{position_or_len}
 use Rattle.std.proofs.lemmas.List.{take_all}
@@ -51,11 +51,6 @@ empty_pair rest pair after cut none =
 pub no_pairs : (rest : List ℕ) → length rest ≡ 0 → pairs_of rest ≡ []
 no_pairs [] none = ap (map named) raw_pairs-nil
 no_pairs (b ∷ bs) none = absurd (omega arith)
-
-pub less_is_left : (mark : ℕ) (rest pair after : List ℕ) → (pair, after) ≡ form.split_once mark rest → 0 < length rest → length after < length rest
-less_is_left mark rest pair after cut some =
-    let back : after ≡ (form.split_once mark rest).1 = ap (λ (p : List ℕ × List ℕ). p.1) cut in
-    omega (arith, ap length back, length-drop (position_or_len (λ b. b == mark) rest + 1) rest)
 
 module _ (whole views : List (List ℕ × List ℕ)) where
   -- what was read and the pairs that are left are all pairs

@@ -17,8 +17,8 @@ abbrev pub content_view : Content → Cells
 content_view (Written.Fill cell) = fill cell
 content_view (Written.Values cells) = values cells.items
 
--- From the values under `fill` and those under `values`: first neither may be given twice, then one has to be there, then
--- not both, and then the spelling counts.
+-- From the values under `fill` and those under `values`: first neither may be given twice, then one has to be there,
+-- then not both, and then the spelling counts.
 abbrev pub content_of : List (List ℕ) → List (List ℕ) → Result Cells RequestError
 content_of [] [] = Err MissingKey
 content_of [] (text ∷ []) = and_then (λ cells. Ok (values cells)) (list_in cell_in text)

@@ -10,7 +10,8 @@ abbrev pub WritesNumber : List ℕ → ℕ → ℕ → Type 0
 WritesNumber bytes number count =
     (count ≤ length bytes) × AllDigits 10 (take count bytes) × (digits_value 10 (take count bytes) ≡ number)
 
--- a byte that is itself in an encoded value, and that may stand in an item of a list: ASCII, and none of `+`, `%` and `,`
+-- a byte that is itself in an encoded value, and that may stand in an item of a list: ASCII, and none of `+`, `%` and
+-- `,`
 abbrev pub IsItemByte : ℕ → Type 0
 IsItemByte b = IsPlain b × (b < 128) × (b ≢ 44)
 

@@ -68,19 +68,26 @@ refusal_of NoMemory = refusal.NoMemory
 -- each request reads its keys in this order, and the first refusal stands
 abbrev pub insertion_of : List (List ℕ × List ℕ) → Result Asks RequestError
 insertion_of pairs =
-    and_then (λ coverage. and_then (λ intervals. and_then (λ fields. Ok (insert_coverage coverage intervals fields)) (read_under (list_in field_in) (codes "fields") pairs)) (read_under (list_in interval_in) (codes "domain") pairs))
+    and_then (λ coverage. and_then
+    (λ intervals. and_then (λ fields. Ok (insert_coverage coverage intervals fields))
+    (read_under (list_in field_in) (codes "fields") pairs))
+    (read_under (list_in interval_in) (codes "domain") pairs))
     (read_under name_in (codes "coverage") pairs)
 
 abbrev pub update_of : List (List ℕ × List ℕ) → Result Asks RequestError
 update_of pairs =
-    and_then (λ coverage. and_then (λ field. and_then (λ intervals. and_then (λ cells. Ok (update_coverage coverage field intervals cells)) (content_under pairs)) (read_under (list_in interval_in) (codes "box") pairs)) (read_under name_in (codes "field") pairs))
+    and_then (λ coverage. and_then
+    (λ field. and_then (λ intervals. and_then (λ cells. Ok (update_coverage coverage field intervals cells))
+    (content_under pairs)) (read_under (list_in interval_in) (codes "box") pairs))
+    (read_under name_in (codes "field") pairs))
     (read_under name_in (codes "coverage") pairs)
 
 abbrev pub deletion_of : List (List ℕ × List ℕ) → Result Asks RequestError
 deletion_of pairs = and_then (λ coverage. Ok (delete_coverage coverage)) (read_under name_in (codes "coverage") pairs)
 
 abbrev pub description_of : List (List ℕ × List ℕ) → Result Asks RequestError
-description_of pairs = and_then (λ coverage. Ok (describe_coverage coverage)) (read_under name_in (codes "coverage") pairs)
+description_of pairs = and_then (λ coverage. Ok (describe_coverage coverage))
+    (read_under name_in (codes "coverage") pairs)
 
 abbrev pub query_of : List (List ℕ × List ℕ) → Result Asks RequestError
 query_of pairs = and_then (λ query. Ok (process_coverages query)) (read_under query_in (codes "query") pairs)
@@ -90,7 +97,8 @@ submission_of pairs = and_then (λ query. Ok (submit_query query)) (read_under q
 
 abbrev pub stepping_of : List (List ℕ × List ℕ) → Result Asks RequestError
 stepping_of pairs =
-    and_then (λ job. and_then (λ units. Ok (step_job job units)) (read_under units_in (codes "units") pairs)) (read_under job_in (codes "job") pairs)
+    and_then (λ job. and_then (λ units. Ok (step_job job units)) (read_under units_in (codes "units") pairs))
+    (read_under job_in (codes "job") pairs)
 
 abbrev pub fetching_of : List (List ℕ × List ℕ) → Result Asks RequestError
 fetching_of pairs = and_then (λ job. Ok (fetch_job job)) (read_under job_in (codes "job") pairs)

@@ -27,14 +27,16 @@ items_of v = v.items
 -- the number that digits write, where they are digits alone and it is below the limit
 abbrev pub digits_in : ℕ → List ℕ → Result ℕ RequestError
 digits_in limit ds =
-    if nat_lt 0 (length ds) && all_ascii_digits ds && nat_lt (digits_value 10 ds) limit then Ok (digits_value 10 ds) else Err BadValue
+    if nat_lt 0 (length ds) && all_ascii_digits ds && nat_lt (digits_value 10 ds) limit then Ok (digits_value 10 ds)
+    else Err BadValue
 
 -- a signed number: an optional `+` or `-` and digits, within 64 bits
 abbrev pub signed_in : List ℕ → Result ℤ RequestError
 signed_in [] = Err BadValue
 signed_in (c ∷ cs) =
     if c == 45 then and_then (λ n. Ok (neg_ℤ (pos n))) (digits_in (2 ^ 63 + 1) cs)
-    else (if c == 43 then and_then (λ n. Ok (pos n)) (digits_in (2 ^ 63) cs) else and_then (λ n. Ok (pos n)) (digits_in (2 ^ 63) (c ∷ cs)))
+    else (if c == 43 then and_then (λ n. Ok (pos n)) (digits_in (2 ^ 63) cs) else and_then (λ n. Ok (pos n))
+    (digits_in (2 ^ 63) (c ∷ cs)))
 
 -- a name of a coverage, a field or an axis
 abbrev pub name_in : List ℕ → Result (List ℕ) RequestError
@@ -73,18 +75,23 @@ at_end x (c ∷ cs) = Err BadValue
 -- the name of an axis and the texts of its bounds, of `x(lo:hi)`
 abbrev pub interval_parts : List ℕ → Result (List ℕ × List ℕ × List ℕ) RequestError
 interval_parts text =
-    and_then (λ (axis, bounds). and_then (λ (lo, rest). and_then (λ (hi, over). at_end (axis, lo, hi) over) (cut_at 41 rest)) (cut_at 58 bounds)) (cut_at 40 text)
+    and_then (λ (axis, bounds). and_then
+    (λ (lo, rest). and_then (λ (hi, over). at_end (axis, lo, hi) over) (cut_at 41 rest)) (cut_at 58 bounds))
+    (cut_at 40 text)
 
 -- an axis and its bounds
 abbrev pub interval_in : List ℕ → Result Interval RequestError
 interval_in text =
-    and_then (λ (axis, lo, hi). and_then (λ name. and_then (λ low. and_then (λ high. Ok (record { axis = name; lo = low; hi = high })) (signed_in hi)) (signed_in lo)) (name_in axis))
+    and_then (λ (axis, lo, hi). and_then
+    (λ name. and_then (λ low. and_then (λ high. Ok (record { axis = name; lo = low; hi = high })) (signed_in hi))
+    (signed_in lo)) (name_in axis))
     (interval_parts text)
 
 -- a field and its type, of `v:i16`
 abbrev pub field_in : List ℕ → Result Field RequestError
 field_in text =
-    and_then (λ (name, kind). and_then (λ n. and_then (λ k. Ok (record { name = n; kind = k })) (kind_in kind)) (name_in name)) (cut_at 58 text)
+    and_then (λ (name, kind). and_then (λ n. and_then (λ k. Ok (record { name = n; kind = k })) (kind_in kind))
+    (name_in name)) (cut_at 58 text)
 
 -- the pieces between the commas
 abbrev pub pieces_of : List ℕ → List (List ℕ)

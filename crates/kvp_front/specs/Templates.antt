@@ -8,7 +8,8 @@ use Rattle.kvp_front.specs.declared.request.TemplateRequest.{TemplateRequest}
 use Rattle.kvp_front.specs.declared.request.RequestError.{RequestError}
 use Rattle.kvp_front.specs.declared.request.RequestError.TheVariants.{RepeatedKey}
 
--- what a template is asked for: the text under `template`, its layer, and the second layer and the radius where they are given
+-- what a template is asked for: the text under `template`, its layer, and the second layer and the radius where they
+-- are given
 pub record Template : Type 0 where
   pub name : List ℕ
   pub layer : RequestedLayer
@@ -29,22 +30,27 @@ field_layer coverage field = record { coverage = coverage; field = Some field }
 abbrev pub layer_in : List ℕ → Result RequestedLayer RequestError
 layer_in text =
     if nat_lt (position_or_len (is_byte 46) text) (length text)
-    then and_then (λ coverage. and_then (λ field. Ok (field_layer coverage field)) (name_in (after_first (is_byte 46) text)))
+    then and_then (λ coverage. and_then (λ field. Ok (field_layer coverage field))
+    (name_in (after_first (is_byte 46) text)))
     (name_in (before_first (is_byte 46) text))
     else and_then (λ coverage. Ok (whole_layer coverage)) (name_in text)
 
 -- the value of a key that may be absent, read
-abbrev pub optional_of : {X : Type 0} → (List ℕ → Result X RequestError) → List (List ℕ) → Result (Option X) RequestError
+abbrev pub optional_of : {X : Type 0} → (List ℕ → Result X RequestError) → List (List ℕ)
+    → Result (Option X) RequestError
 optional_of read [] = Ok None
 optional_of read (value ∷ []) = and_then (λ x. Ok (Some x)) (read value)
 optional_of read (value ∷ second ∷ more) = Err RepeatedKey
 
-abbrev pub optional_under : {X : Type 0} → (List ℕ → Result X RequestError) → List ℕ → List (List ℕ × List ℕ) → Result (Option X) RequestError
+abbrev pub optional_under : {X : Type 0} → (List ℕ → Result X RequestError) → List ℕ → List (List ℕ × List ℕ)
+    → Result (Option X) RequestError
 optional_under read key pairs = optional_of read (values_of key pairs)
 
 -- The keys in this order: `template`, which may be any text, `layer`, `second`, `radius`.
 abbrev pub template_of : List (List ℕ × List ℕ) → Result Template RequestError
 template_of pairs =
-    and_then (λ name. and_then (λ layer. and_then (λ second. and_then (λ radius. Ok (record { name = name; layer = layer; second = second; radius = radius }))
-    (optional_under signed_in (codes "radius") pairs)) (optional_under layer_in (codes "second") pairs)) (read_under layer_in (codes "layer") pairs))
+    and_then (λ name. and_then (λ layer. and_then
+    (λ second. and_then (λ radius. Ok (record { name = name; layer = layer; second = second; radius = radius }))
+    (optional_under signed_in (codes "radius") pairs)) (optional_under layer_in (codes "second") pairs))
+    (read_under layer_in (codes "layer") pairs))
     (only_value (values_of (codes "template") pairs))

@@ -49,7 +49,8 @@ and_then f (Ok a) = f a
 and_then f (Err e) = Err e
 
 -- the one value of a key, read
-abbrev pub read_under : {X : Type 0} → (List ℕ → Result X RequestError) → List ℕ → List (List ℕ × List ℕ) → Result X RequestError
+abbrev pub read_under : {X : Type 0} → (List ℕ → Result X RequestError) → List ℕ → List (List ℕ × List ℕ)
+    → Result X RequestError
 read_under read key pairs = and_then read (only_value (values_of key pairs))
 
 -- The answer stands for what is expected, a value or a refusal; in its place want of memory may be told.

@@ -1,5 +1,5 @@
 //! Lists of cells, read straight from the bytes of a value where nothing in it is encoded.
-ghost use Rattle.std.specs.Prelude.{◌≡◌, ◌<◌, ◌≤◌, ◌^◌, length, codes, Ok, IfOk, IfSome};
+ghost use Rattle.std.specs.Prelude.{◌≡◌, ◌<◌, ◌≤◌, ◌^◌, length, Ok, IfOk, IfSome};
 ghost use Rattle.std.specs.Str.Parse.{starts_with_minus};
 ghost use Rattle.arr_core.specs.declared.cell.Cell.TheVariants.{Int, Bool as Truth};
 ghost use Rattle.kvp_front.specs.Values.{Gives, text_of};

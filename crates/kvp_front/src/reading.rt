@@ -13,8 +13,8 @@ use crate::templates::template_under;
 use std::alloc::Global;
 
 /// Reads the request that some bytes spell as the pairs of a web form, or says what is wrong with them first: the key
-/// `request`, absent, given twice or unknown; then for each key that the request uses, in order, that it is given twice, absent or
-/// badly spelled. Keys match in any ASCII case, and others are ignored.
+/// `request`, absent, given twice or unknown; then for each key that the request uses, in order, that it is given
+/// twice, absent or badly spelled. Keys match in any ASCII case, and others are ignored.
 pub fn read_request(alloc: Global, bytes: &[u8]) -> Result<Request, RequestError>
     ensures { Gives asks (spelled bytes.now) result }
 {

@@ -1,5 +1,5 @@
 //! How names, numbers, intervals, fields and cells are spelled in the values of a request.
-ghost use Rattle.std.specs.Prelude.{◌≡◌, ◌<◌, codes, map, string_bytes};
+ghost use Rattle.std.specs.Prelude.{◌<◌, codes, map, string_bytes};
 ghost use Rattle.kvp_front.specs.Values.{Gives, pair_view, read_under};
 ghost use Rattle.kvp_front.specs.Spelling.{signed_in, name_in, kind_in, field_in, interval_in, cell_in, query_in, same, CutsAt};
 

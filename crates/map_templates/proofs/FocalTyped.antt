@@ -29,7 +29,7 @@ use Rattle.map_templates.specs.Expansion.{focal_on}
 use Rattle.map_templates.specs.Meaning.{Cells, AreIntegers, listed, array_of}
 use Rattle.map_templates.specs.Queries.{IsAxis, IsCoverage}
 use Rattle.map_templates.specs.TypedTrees as trees
-use Rattle.map_templates.specs.TypedTrees.{single, located, literal, window_of, windows_of, edge_tree}
+use Rattle.map_templates.specs.TypedTrees.{located, literal, window_of, windows_of}
 use Rattle.map_templates.proofs.Found.{IsFound, found_named}
 use Rattle.map_templates.proofs.Laws.{tomlins}
 use Rattle.map_templates.proofs.Layers.{layer_node, one, IsOne, layer_typed, layer_reads, bound_one, one_choice, query_typed, query_refused}

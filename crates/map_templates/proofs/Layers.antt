@@ -9,7 +9,7 @@ use Rattle.arr_core.specs.declared.domain.Axis.{Axis}
 use Rattle.arr_core.specs.declared.field.Field.{Field}
 use Rattle.arr_core.specs.declared.signature.Signature.{Signature}
 use Rattle.wcps_text.specs.Tree as tree
-use Rattle.wcps_text.specs.Tree.{Tree, QueryTree}
+use Rattle.wcps_text.specs.Tree.{Tree}
 use Rattle.wcps_types.specs.declared.bound.Bound.{Bound}
 use Rattle.wcps_types.specs.declared.refusal.TypeRefusal.{TypeRefusal}
 use Rattle.wcps_types.specs.declared.refusal.TypeRefusal.TheVariants.{ResultTooLarge, TooMuchWork}

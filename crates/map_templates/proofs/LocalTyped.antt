@@ -19,7 +19,6 @@ use Rattle.map_templates.specs.Expansion.{local_on}
 use Rattle.map_templates.specs.Meaning.{Cells, AreIntegers, listed, array_of}
 use Rattle.map_templates.specs.Queries.{IsCoverage}
 use Rattle.map_templates.specs.TypedTrees as trees
-use Rattle.map_templates.specs.TypedTrees.{single}
 use Rattle.map_templates.proofs.Found.{IsFound, found_named}
 use Rattle.map_templates.proofs.Laws.{tomlins}
 use Rattle.map_templates.proofs.Layers.{layer_node, IsOne, HasAxes, layer_typed, layer_reads, AreBound, bound_both, one_choice, query_typed, query_refused}

@@ -11,7 +11,7 @@ use Rattle.map_templates.specs.declared.template.Template.{Template}
 use Rattle.map_templates.specs.declared.template.Template.TheVariants.{Local, Focal, Zonal}
 use Rattle.map_templates.specs.Expansion.{Operation, local_on, focal_on, zonal_on, operation_of, text_of}
 use Rattle.map_templates.specs.Queries.{IsCoverage, IsText}
-use Rattle.map_templates.proofs.Marks.{Mark, toks_of, spaced, Proper, Puts, clear, cut}
+use Rattle.map_templates.proofs.Marks.{toks_of, spaced, Proper, Puts, clear, cut}
 use Rattle.map_templates.proofs.Written.{Marks, AreAxes, local_query_puts, local_spaced, local_proper, focal_query_puts, focal_spaced, focal_proper, zonal_query_puts, zonal_spaced, zonal_proper}
 use Rattle.map_templates.proofs.Spelled.{local_tree, focal_tree, zonal_tree, local_query_spelled, focal_query_spelled, zonal_query_spelled}
 use Rattle.map_templates.proofs.Limits.{local_within, focal_within, zonal_within, local_low, focal_low, zonal_low}

@@ -11,7 +11,7 @@ use Rattle.wcps_types.specs.Typed.{Typed, binary, bracket}
 use Rattle.wcps_mean.specs.declared.cell.Outcome.TheVariants.{Value}
 use Rattle.wcps_mean.specs.Cells as cells
 use Rattle.arr_core.specs.Cells.{truth_of}
-use Rattle.wcps_mean.specs.Cells.{fits_64, ranged, truth, int_eq, operate2, at_position}
+use Rattle.wcps_mean.specs.Cells.{fits_64, ranged, truth, int_eq, operate2}
 use Rattle.wcps_mean.specs.Condensers.{larger, smaller, condensed, combined}
 use Rattle.wcps_mean.specs.Meaning.{val}
 use Rattle.map_templates.specs.declared.template.LocalOperation.{LocalOperation}

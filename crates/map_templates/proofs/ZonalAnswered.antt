@@ -4,7 +4,7 @@ use Rattle.arr_core.specs.declared.domain.Axis.{Axis}
 use Rattle.arr_core.specs.declared.signature.Signature.{Signature}
 use Rattle.arr_core.specs.Domains.{AreOrdered}
 use Rattle.wcps_text.specs.Tree as tree
-use Rattle.wcps_text.specs.Tree.{Tree, Iters, Subs, only}
+use Rattle.wcps_text.specs.Tree.{Tree, only}
 use Rattle.wcps_text.specs.declared.operator.BinaryOperator.TheVariants as binaries
 use Rattle.wcps_types.specs.declared.refusal.TypeRefusal.TheVariants.{NeedsInteger}
 use Rattle.wcps_types.specs.Typed.{Typed, bracket, binary, condense_where, TypedTree}
@@ -21,7 +21,7 @@ use Rattle.map_templates.specs.Expansion.{zonal_on}
 use Rattle.map_templates.specs.Meaning.{Cells, AreIntegers, listed, array_of}
 use Rattle.map_templates.specs.Queries.{IsAxis, IsCoverage}
 use Rattle.map_templates.specs.TypedTrees as trees
-use Rattle.map_templates.specs.TypedTrees.{condenser_of, single, located, iterators}
+use Rattle.map_templates.specs.TypedTrees.{condenser_of, located, iterators}
 use Rattle.map_templates.proofs.FocalTyped.{is_written}
 use Rattle.map_templates.proofs.Found.{IsFound, found_named}
 use Rattle.map_templates.proofs.Laws.{tomlins}

@@ -7,7 +7,7 @@ use Rattle.arr_core.specs.declared.domain.Axis.{Axis}
 use Rattle.arr_core.specs.declared.signature.Signature.{Signature}
 use Rattle.arr_core.specs.Domains.{IsDomain, names_of, axis_place}
 use Rattle.wcps_text.specs.Tree as tree
-use Rattle.wcps_text.specs.Tree.{Tree, Iters, no_iters, iter, bounds, Subs, no_subs, sub, at, only}
+use Rattle.wcps_text.specs.Tree.{Tree, Iters, no_iters, iter, bounds, Subs, no_subs, sub, at}
 use Rattle.wcps_types.specs.declared.bound.Bound.{Bound}
 use Rattle.wcps_types.specs.Typed.{Typed, bracket}
 use Rattle.wcps_types.specs.Names.{name_place}

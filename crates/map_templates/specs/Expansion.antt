@@ -49,7 +49,8 @@ abbrev pub radius_of : Option ℤ → Answer ℕ
 radius_of None = Err BadParameter
 radius_of (Some z) = cond (int_le (pos 1) z && int_le z (pos max_radius)) (Ok (unsigned_abs z)) (Err BadParameter)
 
--- what is asked: an operation, its layers each with the place of its field, and the domain or the two axes of the first layer
+-- what is asked: an operation, its layers each with the place of its field, and the domain or the two axes of the first
+-- layer
 pub data Operation : Type 0 where
   local_on : LocalOperation → Layer → ℕ → Layer → ℕ → List Axis → Operation
   focal_on : Summary → Layer → ℕ → Axis → Axis → ℕ → Operation
@@ -80,7 +81,8 @@ focal_operation op params signatures =
 
 -- on one domain
 abbrev pub on_domain : Summary → Layer → ℕ → Layer → ℕ → List Axis → List Axis → Answer Operation
-on_domain op layer f zones g axes others = cond (are_same axes others) (Ok (zonal_on op layer f zones g axes)) (Err BadParameter)
+on_domain op layer f zones g axes others =
+    cond (are_same axes others) (Ok (zonal_on op layer f zones g axes)) (Err BadParameter)
 
 abbrev pub zonal_operation : Summary → Params → List Signature → Answer Operation
 zonal_operation op params signatures =

@@ -21,9 +21,11 @@ Reads s t a = (env p : List ℤ) → val s t env p ≡ Value (a p)
 
 -- two trees that give the values of the layers of an operation
 abbrev pub ReadsLayers : CellsOf → Cells → Operation → Typed → Typed → Type 0
-ReadsLayers s cells (local_on op first f second g axes) a b = Reads s a (cells first.coverage f) × Reads s b (cells second.coverage g)
+ReadsLayers s cells (local_on op first f second g axes) a b =
+    Reads s a (cells first.coverage f) × Reads s b (cells second.coverage g)
 ReadsLayers s cells (focal_on op layer f x y radius) a b = Reads s a (cells layer.coverage f)
-ReadsLayers s cells (zonal_on op layer f zones g axes) a b = Reads s a (cells layer.coverage f) × Reads s b (cells zones.coverage g)
+ReadsLayers s cells (zonal_on op layer f zones g axes) a b =
+    Reads s a (cells layer.coverage f) × Reads s b (cells zones.coverage g)
 
 -- bounds of 32 bits
 abbrev pub IsSmall : Axis → Type 0
@@ -35,11 +37,12 @@ IsBounded (local_on op first f second g axes) = Unit {0}
 IsBounded (focal_on op layer f x y radius) = (radius ≤ max_radius) × IsSmall x × IsSmall y
 IsBounded (zonal_on op layer f zones g axes) = Unit {0}
 
--- over whatever cells, the answer of its typed tree is the array that Tomlin's operation gives, or Overflow where a value
--- of that leaves 64 bits somewhere
+-- over whatever cells, the answer of its typed tree is the array that Tomlin's operation gives, or Overflow where a
+-- value of that leaves 64 bits somewhere
 abbrev pub IsTomlins : Operation → Type 0
 IsTomlins o =
-    (s : CellsOf) (cells : Cells) (coverages : List Signature) (a b : Typed) → AreIntegers cells → ReadsLayers s cells o a b → IsBounded o → AreOrdered (domain_of o)
+    (s : CellsOf) (cells : Cells) (coverages : List Signature) (a b : Typed) → AreIntegers cells
+    → ReadsLayers s cells o a b → IsBounded o → AreOrdered (domain_of o)
     → answer s (single coverages (domain_of o) (tree_of o a b)) ≡ array_of cells o
 
 -- where a call gave something, the operation that is asked for is Tomlin's

@@ -25,6 +25,9 @@ AreIntegers cells = (name : List ℕ) (f : ℕ) (p : List ℤ) → fits_64 (cell
 
 -- the array that Tomlin's operation gives, or Overflow where a value leaves 64 bits somewhere
 abbrev pub array_of : Cells → Operation → Result (List Item) PointFault
-array_of cells (local_on op first f second g axes) = array_or_overflow axes (local op (cells first.coverage f) (cells second.coverage g))
-array_of cells (focal_on op layer f x y radius) = array_or_overflow (x ∷ y ∷ []) (focal op (x ∷ y ∷ []) radius (cells layer.coverage f))
-array_of cells (zonal_on op layer f zones g axes) = array_or_overflow axes (zonal op axes (cells layer.coverage f) (cells zones.coverage g))
+array_of cells (local_on op first f second g axes) =
+    array_or_overflow axes (local op (cells first.coverage f) (cells second.coverage g))
+array_of cells (focal_on op layer f x y radius) =
+    array_or_overflow (x ∷ y ∷ []) (focal op (x ∷ y ∷ []) radius (cells layer.coverage f))
+array_of cells (zonal_on op layer f zones g axes) =
+    array_or_overflow axes (zonal op axes (cells layer.coverage f) (cells zones.coverage g))

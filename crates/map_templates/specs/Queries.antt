@@ -42,7 +42,8 @@ pub record IsText (text : List ℕ) (q : QueryTree) : Type 0 where
 -- Where the types of the query are accepted, its answer over cells of 64 bits is the array that the operation gives, or
 -- Overflow where a value of that leaves 64 bits somewhere. The cells are named as the coverages are.
 abbrev pub IsAnswered : List Signature → Operation → QueryTree → Type 0
-IsAnswered signatures o q = (t : TypedTree) (cells : Cells) → typ_query signatures q ≡ Ok t → AreIntegers cells → answer (listed cells t.coverages) t ≡ array_of cells o
+IsAnswered signatures o q = (t : TypedTree) (cells : Cells) → typ_query signatures q ≡ Ok t → AreIntegers cells
+    → answer (listed cells t.coverages) t ≡ array_of cells o
 
 -- the text is a query of the language, whose answer is what the operation gives
 pub record IsQueryOf (signatures : List Signature) (o : Operation) (text : List ℕ) : Type 0 where
@@ -52,4 +53,6 @@ pub record IsQueryOf (signatures : List Signature) (o : Operation) (text : List 
 
 -- a text that a call wrote is a query of the operation that is asked for, where the coverages are as a store has them
 abbrev pub AsksQuery : {A E : Type 0} → List Signature → Answer Operation → Result (String A) E → Type 0
-AsksQuery signatures a result = All IsCoverage signatures → IfOk result (λ text. (o : Operation) → a ≡ Ok o → IsQueryOf signatures o (string_bytes text))
+AsksQuery signatures a result =
+    All IsCoverage signatures → IfOk result
+    (λ text. (o : Operation) → a ≡ Ok o → IsQueryOf signatures o (string_bytes text))

@@ -1,4 +1,5 @@
--- Tomlin's operations as sets of locations. (C. D. Tomlin, Geographic Information Systems and Cartographic Modeling, 1990.)
+-- Tomlin's operations as sets of locations. (C. D. Tomlin, Geographic Information Systems and Cartographic Modeling,
+-- 1990.)
 use Rattle.std.specs.Prelude.{ℕ, ℤ, pos, ◌+ℤ◌, ◌-ℤ◌, ◌*ℤ◌, List, [], ◌∷◌, map, Bool, true, false, ◌&&◌, nat_le, cond, Result, Ok, Err}
 use Rattle.std.specs.List.{filter, list_all}
 use Rattle.arr_core.specs.declared.cell.Cell.TheVariants as cells

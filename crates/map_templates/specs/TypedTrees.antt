@@ -25,8 +25,12 @@ abbrev pub local_tree : LocalOperation → Typed → Typed → Typed
 local_tree locals.Sum a b = binary binaries.Add a b
 local_tree locals.Difference a b = binary binaries.Subtract a b
 local_tree locals.Product a b = binary binaries.Multiply a b
-local_tree locals.Maximum a b = binary binaries.Add (binary binaries.Multiply a (binary binaries.GreaterEqual a b)) (binary binaries.Multiply b (binary binaries.Less a b))
-local_tree locals.Minimum a b = binary binaries.Add (binary binaries.Multiply a (binary binaries.LessEqual a b)) (binary binaries.Multiply b (binary binaries.Greater a b))
+local_tree locals.Maximum a b =
+    binary binaries.Add (binary binaries.Multiply a (binary binaries.GreaterEqual a b))
+    (binary binaries.Multiply b (binary binaries.Less a b))
+local_tree locals.Minimum a b =
+    binary binaries.Add (binary binaries.Multiply a (binary binaries.LessEqual a b))
+    (binary binaries.Multiply b (binary binaries.Greater a b))
 
 -- ---- layers at positions
 
@@ -46,7 +50,8 @@ iterators k (a ∷ axes) = iterator k ∷ iterators (suc k) axes
 abbrev pub zonal_tree : Summary → List Axis → Typed → Typed → Typed
 zonal_tree op axes a z =
     array (condense_where (condenser_of op) axes
-    (binary binaries.Equal (bracket (located z 0 axes (iterators (length axes) axes))) (bracket (located z 0 axes (iterators 0 axes))))
+    (binary binaries.Equal (bracket (located z 0 axes (iterators (length axes) axes)))
+    (bracket (located z 0 axes (iterators 0 axes))))
     (bracket (located a 0 axes (iterators (length axes) axes))))
 
 -- ---- focal
@@ -65,7 +70,8 @@ literal (pos n) = number (pos n)
 literal (negsuc n) = unary unaries.Negate (number (pos (suc n)))
 
 abbrev pub edge_tree : Typed → Axis → Typed
-edge_tree m a = binary binaries.And (binary binaries.GreaterEqual m (literal a.lo)) (binary binaries.LessEqual m (literal a.hi))
+edge_tree m a = binary binaries.And (binary binaries.GreaterEqual m (literal a.lo))
+    (binary binaries.LessEqual m (literal a.hi))
 
 abbrev pub first_moved : Typed
 first_moved = binary binaries.Add (iterator 0) (iterator 2)
@@ -75,7 +81,9 @@ second_moved = binary binaries.Add (iterator 1) (iterator 3)
 
 -- a location moved by an offset is one of the domain
 abbrev pub edges_tree : Axis → Axis → Typed
-edges_tree x y = binary binaries.And (binary binaries.And (edge_tree first_moved x) (binary binaries.GreaterEqual second_moved (literal y.lo))) (binary binaries.LessEqual second_moved (literal y.hi))
+edges_tree x y = binary binaries.And
+    (binary binaries.And (edge_tree first_moved x) (binary binaries.GreaterEqual second_moved (literal y.lo)))
+    (binary binaries.LessEqual second_moved (literal y.hi))
 
 abbrev pub focal_tree : Summary → Axis → Axis → ℕ → Typed → Typed
 focal_tree op x y r a =
@@ -90,7 +98,11 @@ integer_field t = record { boolean = false; tree = t }
 
 -- a query of one combination without a condition, whose item is one integer field
 abbrev pub single : List Signature → List Axis → Typed → TypedTree
-single cs axes t = record { coverages = cs; combinations = record { condition = None; item = record { domain = axes; fields = integer_field t ∷ [] } } ∷ [] }
+single cs axes t = record {
+  coverages = cs;
+  combinations =
+      record { condition = None; item = record { domain = axes; fields = integer_field t ∷ [] } } ∷ [];
+}
 
 -- of an operation, by the trees of its layers; a focal operation has the first one alone
 abbrev pub tree_of : Operation → Typed → Typed → Typed

@@ -24,11 +24,11 @@ const MAX_RADIUS: i64 = 8;
 
 /// The query of a template, as a text of one line.
 ///
-/// `NoSuchTemplate` where no template has that name; else `NoSuchCoverage` where a layer that the template uses is none of
-/// the coverages, the layer before the second; else `BadParameter`: a layer names a field that its coverage lacks, or
-/// names none and the coverage has other than one; there is no second layer for a local or a zonal operation; the radius of a
-/// focal one is absent or not 1 to 8, or its coverage has other than two axes; the layers of a zonal one have unlike
-/// domains.
+/// `NoSuchTemplate` where no template has that name; else `NoSuchCoverage` where a layer that the template uses is none
+/// of the coverages, the layer before the second; else `BadParameter`: a layer names a field that its coverage lacks,
+/// or names none and the coverage has other than one; there is no second layer for a local or a zonal operation; the
+/// radius of a focal one is absent or not 1 to 8, or its coverage has other than two axes; the layers of a zonal one
+/// have unlike domains.
 pub fn expand(
     alloc: Global,
     template: &str,

@@ -1,5 +1,5 @@
 -- The whole metadata, read from its bytes.
-use Rattle.std.proofs.Common.{◌≡◌, ℕ, List, flat_map, ◌∙◌}
+use Rattle.std.proofs.Common.{ℕ, List, flat_map}
 use Rattle.file_bytes.specs.Codes.{IsRead}
 use Rattle.arr_core.specs.declared.signature.Signature.{Signature}
 use Rattle.file_bytes.specs.declared.form.Version.{Version}

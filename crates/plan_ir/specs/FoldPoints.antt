@@ -37,7 +37,8 @@ fields_folds (f ∷ fields) = body_folds f.body + fields_folds fields
 -- of steps, each body once
 abbrev pub steps_folds : Option StepsTree → ℕ
 steps_folds None = 0
-steps_folds (Some s) = passes_folds s.passes + (condition_folds s.condition + (binds_folds s.item.binds + fields_folds s.item.fields))
+steps_folds (Some s) = passes_folds
+    s.passes + (condition_folds s.condition + (binds_folds s.item.binds + fields_folds s.item.fields))
 
 -- of a plan, the steps of each combination
 abbrev pub fold_points : PlanTree → ℕ

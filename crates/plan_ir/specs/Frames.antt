@@ -31,10 +31,12 @@ run_in frame e vars s = run (cells_of s frame.coverages.items) frame.registers.i
 
 -- what a point of a fold demands
 abbrev pub demanded_in : Frame → Fold → List ℤ → CellsOf → List Outcome
-demanded_in frame f vars s = demanded (run_in frame (condition_view f.condition) vars s) (run_in frame (body_view f.body) vars s)
+demanded_in frame f vars s = demanded (run_in frame (condition_view f.condition) vars s)
+    (run_in frame (body_view f.body) vars s)
 
 -- where what is kept is intact, a condenser was fed the outcomes that the cells give
-abbrev pub TakesIn : {S A E : Type 0} → Ghosts S → S → Result A E → (CellsOf → List Outcome) → Running → Running → Type 0
+abbrev pub TakesIn : {S A E : Type 0} → Ghosts S → S → Result A E → (CellsOf → List Outcome) → Running → Running
+    → Type 0
 TakesIn g store r f old new = OnOk r (g.intact store → Feeds old new (f (g.cells store)))
 
 -- the registers have the outcomes of passes over these cells
@@ -43,20 +45,23 @@ HasRun s passes frame = frame.registers.items ≡ registers (cells_of s frame.co
 
 -- whether there is an item, or the first fault
 abbrev pub chosen_in : Frame → Option Body → CellsOf → Result Bool PointFault
-chosen_in frame condition s = chosen (cells_of s frame.coverages.items) frame.registers.items (option_map body_view condition)
+chosen_in frame condition s = chosen (cells_of s frame.coverages.items) frame.registers.items
+    (option_map body_view condition)
 
 -- the variables after binds, or the first fault
 abbrev pub bound_in : Frame → List Bind → List ℤ → CellsOf → Result (List ℤ) PointFault
 bound_in frame binds vars s = bound (cells_of s frame.coverages.items) frame.registers.items (map bind_view binds) vars
 
 -- where what is kept is intact, these are the variables after binds, and a fault that is told is theirs
-abbrev pub Binds : {S A : Type 0} → Ghosts S → S → Result A EvalError → (CellsOf → Result (List ℤ) PointFault) → List ℤ → Type 0
+abbrev pub Binds : {S A : Type 0} → Ghosts S → S → Result A EvalError → (CellsOf → Result (List ℤ) PointFault) → List ℤ
+    → Type 0
 Binds g store (Ok x) f vars = g.intact store → f (g.cells store) ≡ Ok vars
 Binds g store (Err e) f vars = g.intact store → TellsFault e (f (g.cells store))
 
 -- the cells of fields, or the first fault
 abbrev pub fields_in : Frame → List Field → List ℤ → CellsOf → Result (List Cell) PointFault
-fields_in frame fields vars s = joined (map (field_cell (cells_of s frame.coverages.items) frame.registers.items vars) (map field_view fields))
+fields_in frame fields vars s =
+    joined (map (field_cell (cells_of s frame.coverages.items) frame.registers.items vars) (map field_view fields))
 
 -- the cells of an item at a point, or the first fault
 abbrev pub cells_in : Frame → planned.Item → List ℤ → CellsOf → Result (List Cell) PointFault

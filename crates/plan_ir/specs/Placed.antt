@@ -21,7 +21,8 @@ spans axes = map span axes
 abbrev pub LiesWithin : Interval → Interval → Type 0
 LiesWithin b a = (a.lo ≤ℤ b.lo) × (b.hi ≤ℤ a.hi)
 
--- an index lies in an interval: a constant, or a variable all of whose numbers do; scope has the interval of each variable
+-- an index lies in an interval: a constant, or a variable all of whose numbers do; scope has the interval of each
+-- variable
 abbrev pub LiesIn : Interval → List Interval → Index → Type 0
 LiesIn a scope (Const z) = (a.lo ≤ℤ z) × (z ≤ℤ a.hi)
 LiesIn a scope (Var k) = IsSomeAnd (slice_get scope k) (λ b. LiesWithin b a)
@@ -47,8 +48,10 @@ IsPlaced cs regs scope (op1 op e) = IsPlaced cs regs scope e
 IsPlaced cs regs scope (op2 op l r) = IsPlaced cs regs scope l × IsPlaced cs regs scope r
 IsPlaced cs regs scope (read c f is) = HasCells (cs c) f scope is
 IsPlaced cs regs scope (table box items is) = Indexes (spans box) scope is × (length items ≡ count box)
-IsPlaced cs regs scope (bind i lo hi e) = IsPlaced cs regs scope i × IsPlaced cs regs (scope ++ record { lo = lo; hi = hi } ∷ []) e
-IsPlaced cs regs scope (fold op box c e) = IsPlaced cs regs (scope ++ spans box) c × IsPlaced cs regs (scope ++ spans box) e
+IsPlaced cs regs scope (bind i lo hi e) =
+    IsPlaced cs regs scope i × IsPlaced cs regs (scope ++ record { lo = lo; hi = hi } ∷ []) e
+IsPlaced cs regs scope (fold op box c e) =
+    IsPlaced cs regs (scope ++ spans box) c × IsPlaced cs regs (scope ++ spans box) e
 
 -- a condition, where there is one
 abbrev pub ConditionIsPlaced : (ℕ → Option Signature) → ℕ → List Interval → Option Tree → Type 0
@@ -58,7 +61,9 @@ ConditionIsPlaced cs regs scope (Some c) = IsPlaced cs regs scope c
 -- each pass reads earlier registers alone
 abbrev pub PassesArePlaced : (ℕ → Option Signature) → ℕ → List PassTree → Type 0
 PassesArePlaced cs regs [] = Unit {0}
-PassesArePlaced cs regs (p ∷ passes) = IsPlaced cs regs (spans p.domain) p.condition × IsPlaced cs regs (spans p.domain) p.body × PassesArePlaced cs (regs + 1) passes
+PassesArePlaced cs regs (p ∷ passes) =
+    IsPlaced cs regs (spans p.domain) p.condition × IsPlaced cs regs (spans p.domain) p.body
+    × PassesArePlaced cs (regs + 1) passes
 
 abbrev pub FieldsArePlaced : (ℕ → Option Signature) → ℕ → List Interval → List FieldBody → Type 0
 FieldsArePlaced cs regs scope [] = Unit {0}
@@ -67,7 +72,9 @@ FieldsArePlaced cs regs scope (f ∷ fields) = IsPlaced cs regs scope f.body × 
 -- each bind adds its interval to the variables of what follows
 abbrev pub ItemIsPlaced : (ℕ → Option Signature) → ℕ → List Interval → List BindTree → List FieldBody → Type 0
 ItemIsPlaced cs regs scope [] fields = FieldsArePlaced cs regs scope fields
-ItemIsPlaced cs regs scope (b ∷ binds) fields = IsPlaced cs regs scope b.position × ItemIsPlaced cs regs (scope ++ record { lo = b.lo; hi = b.hi } ∷ []) binds fields
+ItemIsPlaced cs regs scope (b ∷ binds) fields =
+    IsPlaced cs regs scope b.position
+    × ItemIsPlaced cs regs (scope ++ record { lo = b.lo; hi = b.hi } ∷ []) binds fields
 
 -- an item without fields has no binds, since nothing demands their positions
 abbrev pub AreDemanded : List BindTree → List FieldBody → Type 0

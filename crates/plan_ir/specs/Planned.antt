@@ -28,7 +28,8 @@ registers s passes = registers_after s [] passes
 -- the variables after the binds, or the first fault
 abbrev pub bound : (ℕ → ℕ → List ℤ → ℤ) → List Outcome → List BindTree → List ℤ → Result (List ℤ) PointFault
 bound s regs [] vars = Ok vars
-bound s regs (b ∷ binds) vars = then_of (coordinate_in (run s regs b.position vars) b.lo b.hi) (λ z. bound s regs binds (vars ++ z ∷ []))
+bound s regs (b ∷ binds) vars =
+    then_of (coordinate_in (run s regs b.position vars) b.lo b.hi) (λ z. bound s regs binds (vars ++ z ∷ []))
 
 -- the cell of a field
 abbrev pub field_cell : (ℕ → ℕ → List ℤ → ℤ) → List Outcome → List ℤ → FieldBody → Result (List Cell) PointFault
@@ -44,7 +45,8 @@ item_cells s regs i = joined (map (cells_at s regs i) (points i.domain))
 
 -- an item, or the first fault
 abbrev pub item_planned : (ℕ → ℕ → List ℤ → ℤ) → List Outcome → ItemTree → Result Item PointFault
-item_planned s regs i = then_of (item_cells s regs i) (λ cells. Ok (record { line = line_of i.domain; fields = field_count (length i.fields); cells = cells }))
+item_planned s regs i = then_of (item_cells s regs i)
+    (λ cells. Ok (record { line = line_of i.domain; fields = field_count (length i.fields); cells = cells }))
 
 -- whether there is an item: there is no condition, or it is true
 abbrev pub chosen : (ℕ → ℕ → List ℤ → ℤ) → List Outcome → Option Tree → Result Bool PointFault
@@ -53,7 +55,8 @@ chosen s regs (Some c) = given truth_of (run s regs c [])
 
 -- the item of steps, nothing where their condition is false, or the first fault
 abbrev pub given_out : (ℕ → ℕ → List ℤ → ℤ) → List Outcome → StepsTree → Result (List Item) PointFault
-given_out s regs steps = then_of (chosen s regs steps.condition) (λ b. cond b (then_of (item_planned s regs steps.item) (λ i. Ok (i ∷ []))) (Ok []))
+given_out s regs steps = then_of (chosen s regs steps.condition)
+    (λ b. cond b (then_of (item_planned s regs steps.item) (λ i. Ok (i ∷ []))) (Ok []))
 
 abbrev pub steps_planned : (ℕ → ℕ → List ℤ → ℤ) → StepsTree → Result (List Item) PointFault
 steps_planned s steps = given_out s (registers s steps.passes) steps
@@ -69,4 +72,5 @@ choice_planned s coverages (Some steps) = steps_planned (cells_of s coverages) s
 
 -- the items of all combinations in order, or the first fault; s gives the cells of the plan's coverages
 abbrev pub planned : (ℕ → ℕ → List ℤ → ℤ) → PlanTree → Result (List Item) PointFault
-planned s plan = joined (map (λ (c : Choice). choice_planned s c.coverages (slice_get plan.steps c.steps)) plan.combinations)
+planned s plan = joined (map (λ (c : Choice). choice_planned s c.coverages (slice_get plan.steps c.steps))
+    plan.combinations)

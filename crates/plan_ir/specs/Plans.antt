@@ -70,10 +70,20 @@ abbrev pub item_view : Item → ItemTree
 item_view i = record { domain = i.domain; binds = map bind_view i.binds.items; fields = map field_view i.fields.items }
 
 abbrev pub steps_view : Steps → StepsTree
-steps_view s = record { passes = map pass_view s.passes.items; condition = option_map body_view s.condition; item = item_view s.item }
+steps_view s = record {
+  passes = map pass_view s.passes.items;
+  condition = option_map body_view s.condition;
+  item =
+      item_view s.item;
+}
 
 abbrev pub choice_view : Combination → Choice
 choice_view c = record { steps = c.steps; coverages = c.coverages.items }
 
 abbrev pub plan_view : Plan → PlanTree
-plan_view p = record { coverages = p.coverages.items; steps = map steps_view p.steps.items; combinations = map choice_view p.combinations.items }
+plan_view p = record {
+  coverages = p.coverages.items;
+  steps = map steps_view p.steps.items;
+  combinations =
+      map choice_view p.combinations.items;
+}

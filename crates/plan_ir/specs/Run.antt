@@ -19,12 +19,11 @@ number_at vars (Var k) = slice_index_or vars k (pos 0)
 abbrev pub numbers_at : List ℤ → List Index → List ℤ
 numbers_at vars is = map (number_at vars) is
 
--- The outcome of a body, where vars are the numbers of its variables; s gives the cell of a coverage and a field at each
--- point, regs are the outcomes of the passes.
---   An operation is taken of its operands' outcomes, the left one first.
---   A bind first takes its position, then tests it against lo to hi, then goes on with one more variable.
---   A fold lists all points of its box; each gives what is demanded of it: the condition's fault, nothing where the
---   condition is false, else the body's outcome.
+-- The outcome of a body, where vars are the numbers of its variables; s gives the cell of a coverage and a field at
+-- each point, regs are the outcomes of the passes. An operation is taken of its operands' outcomes, the left one first.
+-- A bind first takes its position, then tests it against lo to hi, then goes on with one more variable. A fold lists
+-- all points of its box; each gives what is demanded of it: the condition's fault, nothing where the condition is
+-- false, else the body's outcome.
 abbrev pub run : (ℕ → ℕ → List ℤ → ℤ) → List Outcome → Tree → List ℤ → Outcome
 run s regs (lit z) vars = Value z
 run s regs (var k) vars = Value (slice_index_or vars k (pos 0))
@@ -34,4 +33,5 @@ run s regs (op2 op l r) vars = operate2 op (run s regs l vars) (run s regs r var
 run s regs (read c f is) vars = Value (s c f (numbers_at vars is))
 run s regs (table box items is) vars = Value (slice_index_or items (rank_of box (numbers_at vars is)) (pos 0))
 run s regs (bind i lo hi e) vars = at_position (run s regs i vars) lo hi (λ z. run s regs e (vars ++ z ∷ []))
-run s regs (fold op box c e) vars = condensed op (flat_map (λ x. demanded (run s regs c (vars ++ x)) (run s regs e (vars ++ x))) (points box))
+run s regs (fold op box c e) vars =
+    condensed op (flat_map (λ x. demanded (run s regs c (vars ++ x)) (run s regs e (vars ++ x))) (points box))

@@ -26,7 +26,8 @@ item_units box (f ∷ fields) = count box
 -- of a combination: the points of its passes' boxes, one for its condition, and those of its item
 abbrev pub steps_units : Option StepsTree → ℕ
 steps_units None = 0
-steps_units (Some s) = sum_by (λ (p : PassTree). count p.domain) s.passes + (condition_units s.condition + item_units s.item.domain s.item.fields)
+steps_units (Some s) = sum_by (λ (p : PassTree). count p.domain)
+    s.passes + (condition_units s.condition + item_units s.item.domain s.item.fields)
 
 -- at most so many units has a plan
 abbrev pub units : PlanTree → ℕ
@@ -40,7 +41,8 @@ pub record Stage : Type 0 where
 
 -- one stage for each tile of a box
 abbrev pub tile_stages : List ℕ → List Tree → List Axis → List Stage
-tile_stages coverages bodies box = map (λ b. record { box = b; coverages = coverages; bodies = bodies }) (tile_boxes box)
+tile_stages coverages bodies box =
+    map (λ b. record { box = b; coverages = coverages; bodies = bodies }) (tile_boxes box)
 
 abbrev pub pass_stages : List ℕ → PassTree → List Stage
 pass_stages coverages p = tile_stages coverages (p.condition ∷ p.body ∷ []) p.domain
@@ -53,7 +55,8 @@ condition_stages coverages (Some c) = record { box = []; coverages = coverages; 
 abbrev pub item_stages : List ℕ → ItemTree → List FieldBody → List Stage
 item_stages coverages i [] = record { box = []; coverages = coverages; bodies = [] } ∷ []
 item_stages coverages i (f ∷ fields) =
-    tile_stages coverages (map (λ (b : BindTree). b.position) i.binds ++ map (λ (f : FieldBody). f.body) (f ∷ fields)) i.domain
+    tile_stages coverages (map (λ (b : BindTree). b.position) i.binds ++ map (λ (f : FieldBody). f.body) (f ∷ fields))
+    i.domain
 
 -- of a combination: the tiles of each pass in order
 abbrev pub passes_boxes : List ℕ → Option StepsTree → List Stage
@@ -99,7 +102,8 @@ domain_of (Some c) = c.domain
 -- how many tiles a read under no fold may fetch: where its indexes are constants and variables of the box, those that
 -- hold a point which it indexes; else one for each point of the box
 abbrev pub bound_read : Option Signature → List Axis → List Index → ℕ
-bound_read c box is = cond (list_all (index_below (length box)) is) (length (tiles_read (domain_of c) box is)) (count box)
+bound_read c box is = cond (list_all (index_below (length box)) is) (length (tiles_read (domain_of c) box is))
+    (count box)
 
 -- the reads of a body, each n times; under folds the points of their boxes times as often
 abbrev pub bound_times : ℕ → Tree → ℕ

@@ -17,8 +17,8 @@ pub struct Interval {
     pub hi: i32,
 }
 
-/// What gives a value at a point. Its variables are the coordinates of the boxes and binds around it, outermost first: a
-/// variable is its level among them, from 0. A Boolean is 0 or 1.
+/// What gives a value at a point. Its variables are the coordinates of the boxes and binds around it, outermost first:
+/// a variable is its level among them, from 0. A Boolean is 0 or 1.
 #[cycle(body)]
 #[derive(Drop)]
 pub enum Body {
@@ -55,8 +55,8 @@ pub enum Body {
     Fold(Box<Fold>),
 }
 
-/// What becomes of the values of the body at those points of a domain where the condition is true, or at all of them. The
-/// coordinates of the domain are further variables in both.
+/// What becomes of the values of the body at those points of a domain where the condition is true, or at all of them.
+/// The coordinates of the domain are further variables in both.
 #[cycle(body)]
 #[derive(Drop)]
 pub struct Fold {

@@ -1,6 +1,6 @@
 //! Evaluation of bodies at one point.
 
-ghost use Rattle.std.specs.Prelude.{◌≡◌, ℕ, ◌+◌, ◌<◌, ◌≤◌, ◌^◌, ℤ, pos, List, [], ◌∷◌, ◌++◌, slice_index_or, IfOk, OnOk};
+ghost use Rattle.std.specs.Prelude.{◌≡◌, ◌+◌, ◌<◌, ◌≤◌, pos, [], ◌∷◌, ◌++◌, slice_index_or, IfOk, OnOk};
 ghost use Rattle.arr_core.specs.Limits.{max_points};
 ghost use Rattle.wcps_mean.specs.declared.cell.Outcome.{Outcome};
 ghost use Rattle.wcps_mean.specs.Reading.{Leaves, Returns};
@@ -17,7 +17,8 @@ use wcps_mean::{
     operate_both, place_at,
 };
 
-/// What bodies of one combination stand over: its coverages, by their places in the plan, and the outcomes of its passes.
+/// What bodies of one combination stand over: its coverages, by their places in the plan, and the outcomes of its
+/// passes.
 #[derive(Drop)]
 pub(crate) struct Frame {
     pub coverages: Vec<usize>,

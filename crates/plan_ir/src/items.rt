@@ -1,15 +1,14 @@
 //! The items of a plan, point by point.
 
-ghost use Rattle.std.specs.Prelude.{◌≡◌, ◌≤◌, ◌*◌, ℕ, ℤ, List, [], ◌∷◌, ◌++◌, Ok, Err, Result, IfOk, OnOk, length, map, option_map, option_copied, slice_get};
+ghost use Rattle.std.specs.Prelude.{◌≡◌, [], ◌∷◌, ◌++◌, Ok, Err, Result, IfOk, OnOk, option_copied, slice_get};
 ghost use Rattle.wcps_mean.specs.Errors.{Answers, Lists, PassesOn, Pushes};
-ghost use Rattle.wcps_mean.specs.Answer.{joined, given, cell_of, line_of, field_count};
+ghost use Rattle.wcps_mean.specs.Answer.{cell_of, field_count};
 ghost use Rattle.wcps_mean.specs.Reading.{Leaves};
 ghost use Rattle.wcps_mean.specs.Reports.{Reports};
 ghost use Rattle.wcps_mean.specs.declared.cell.Outcome.{Outcome};
-ghost use Rattle.plan_ir.specs.Bodies.{body_view, fold_view};
 ghost use Rattle.plan_ir.specs.Run.{run};
-ghost use Rattle.plan_ir.specs.Plans.{pass_view, bind_view, field_view, item_view, steps_view, choice_view, plan_view};
-ghost use Rattle.plan_ir.specs.Planned.{pass_outcome, registers, registers_after, bound, field_cell, cells_at, item_cells, item_planned, chosen, given_out, steps_planned, cells_of, choice_planned, planned};
+ghost use Rattle.plan_ir.specs.Plans.{plan_view};
+ghost use Rattle.plan_ir.specs.Planned.{registers, bound, planned};
 ghost use Rattle.plan_ir.specs.Frames.{Binds, HasRun, bound_in, cells_in, chosen_in, fields_in, item_in, items_of, items_over};
 
 use crate::body::{Body, Fold};

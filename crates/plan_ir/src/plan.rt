@@ -17,7 +17,8 @@ pub struct Field {
     pub body: Body,
 }
 
-/// The cells of each field at each point of a domain. The variables are the coordinates, then one for each bind, in order.
+/// The cells of each field at each point of a domain. The variables are the coordinates, then one for each bind, in
+/// order.
 #[derive(Drop)]
 pub struct Item {
     pub domain: Domain,

@@ -1,4 +1,5 @@
--- Rewriting makes no more units than the folds in bodies have points: a fold that becomes a pass takes its points along.
+-- Rewriting makes no more units than the folds in bodies have points: a fold that becomes a pass takes its points
+-- along.
 use Rattle.std.proofs.Common.{◌≡◌, ℕ, ◌+◌, ◌≤◌, List, [], ◌∷◌, ◌++◌, length, map, get_or, refl, sym, ap, ◌∙◌, subst, arith, ℤ, pos, Bool, true, false}
 use Rattle.std.specs.Prelude.{Option, Some, None, slice_get, option_map, sum_by, ◌&&◌}
 use Rattle.std.proofs.lemmas.List.Sums.{sum_by-cons}

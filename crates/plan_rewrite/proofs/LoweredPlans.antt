@@ -1,5 +1,5 @@
--- A tree over the coverages that a combination has means what the tree over variables means with the cells of these coverages,
--- and so do the steps of the tree, which are well-formed.
+-- A tree over the coverages that a combination has means what the tree over variables means with the cells of these
+-- coverages, and so do the steps of the tree, which are well-formed.
 use Rattle.std.proofs.Common.{◌≡◌, ℕ, List, [], ◌∷◌, ◌++◌, length, map, get_or, refl, sym, ap, ◌∙◌, ℤ, pos, Bool, cond, Result, Ok}
 use Rattle.std.specs.Prelude.{Option, Some, None, slice_get, option_map, insert, Box}
 use Rattle.std.specs.Global.{Global}

@@ -1,5 +1,5 @@
--- A lowered query gives the query's answer, is well-formed, and has its units within the work: each combination has the steps
--- of its tree.
+-- A lowered query gives the query's answer, is well-formed, and has its units within the work: each combination has the
+-- steps of its tree.
 use Rattle.std.proofs.Common.{◌≡◌, ℕ, zero, suc, ◌+◌, ◌*◌, ◌^◌, ◌<◌, ◌≤◌, List, [], ◌∷◌, ◌++◌, length, map, refl, sym, ap, ◌∙◌, subst, arith, ℤ, take, Result, Ok, Err}
 use Rattle.std.specs.Prelude.{Option, Some, None, slice_get, option_map, IsSomeAnd, All, sum_by}
 use Rattle.std.proofs.lemmas.List.{length-map, map-append}

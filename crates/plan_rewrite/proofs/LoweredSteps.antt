@@ -1,4 +1,5 @@
--- Lowered steps give what the condition and the item give, are well-formed, and have no more units than their work and one.
+-- Lowered steps give what the condition and the item give, are well-formed, and have no more units than their work and
+-- one.
 use Rattle.std.proofs.Common.{◌≡◌, ℕ, zero, suc, ◌+◌, ◌*◌, ◌≤◌, List, [], ◌∷◌, length, map, refl, sym, ap, ◌∙◌, subst, arith, ℤ, Bool, cond, Result, Ok}
 use Rattle.std.specs.Prelude.{Option, Some, None, slice_get, option_map, Box}
 use Rattle.std.specs.Global.{Global}

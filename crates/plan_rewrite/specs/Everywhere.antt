@@ -19,8 +19,11 @@ InBody r scope (op1 op e) = InBody r scope e
 InBody r scope (op2 op a b) = InBody r scope a × InBody r scope b
 InBody r scope (read c f is) = Unit {0}
 InBody r scope (table box items is) = Unit {0}
-InBody r scope (bind p lo hi e) = r.binds scope (record { position = p; lo = lo; hi = hi }) × InBody r scope p × InBody r (scope ++ record { lo = lo; hi = hi } ∷ []) e
-InBody r scope (fold op box c e) = r.folds scope (pass_of op box c e) × InBody r (scope ++ spans box) c × InBody r (scope ++ spans box) e
+InBody r scope (bind p lo hi e) =
+    r.binds scope (record { position = p; lo = lo; hi = hi }) × InBody r scope p
+    × InBody r (scope ++ record { lo = lo; hi = hi } ∷ []) e
+InBody r scope (fold op box c e) =
+    r.folds scope (pass_of op box c e) × InBody r (scope ++ spans box) c × InBody r (scope ++ spans box) e
 
 abbrev pub InPasses : Rule → List PassTree → Type 0
 InPasses r [] = Unit {0}
@@ -37,11 +40,13 @@ InFields r scope (f ∷ fields) = InBody r scope f.body × InFields r scope fiel
 -- the binds of an item too
 abbrev pub InItem : Rule → List Interval → List BindTree → List FieldBody → Type 0
 InItem r scope [] fields = InFields r scope fields
-InItem r scope (b ∷ binds) fields = r.binds scope b × InBody r scope b.position × InItem r (scope ++ record { lo = b.lo; hi = b.hi } ∷ []) binds fields
+InItem r scope (b ∷ binds) fields =
+    r.binds scope b × InBody r scope b.position × InItem r (scope ++ record { lo = b.lo; hi = b.hi } ∷ []) binds fields
 
 abbrev pub InSteps : Rule → List StepsTree → Type 0
 InSteps r [] = Unit {0}
-InSteps r (s ∷ more) = InPasses r s.passes × InCondition r s.condition × InItem r (spans s.item.domain) s.item.binds s.item.fields × InSteps r more
+InSteps r (s ∷ more) = InPasses r s.passes × InCondition r s.condition
+    × InItem r (spans s.item.domain) s.item.binds s.item.fields × InSteps r more
 
 -- the rule holds of each bind and each fold of the plan
 abbrev pub Everywhere : Rule → PlanTree → Type 0

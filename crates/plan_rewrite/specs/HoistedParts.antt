@@ -21,15 +21,18 @@ body_hoisted at passes e = hoisting at.regs.now at.depth (passes_in passes) (bod
 -- a fold whose condition and body have been hoisted
 abbrev pub inner_pass : Around → Vec Fold Global → Fold → PassTree
 inner_pass at passes f =
-    pass_of f.op f.domain (hoisting at.regs.now (at.depth + length f.domain) (passes_in passes) (condition_view f.condition)).body
+    pass_of f.op f.domain (hoisting at.regs.now (at.depth + length f.domain) (passes_in passes)
+    (condition_view f.condition)).body
     (hoisting at.regs.now (at.depth + length f.domain)
-    (hoisting at.regs.now (at.depth + length f.domain) (passes_in passes) (condition_view f.condition)).passes (body_view f.body)).body
+    (hoisting at.regs.now (at.depth + length f.domain) (passes_in passes) (condition_view f.condition)).passes
+    (body_view f.body)).body
 
 -- all passes then
 abbrev pub inner_passes : Around → Vec Fold Global → Fold → List PassTree
 inner_passes at passes f =
     (hoisting at.regs.now (at.depth + length f.domain)
-    (hoisting at.regs.now (at.depth + length f.domain) (passes_in passes) (condition_view f.condition)).passes (body_view f.body)).passes
+    (hoisting at.regs.now (at.depth + length f.domain) (passes_in passes) (condition_view f.condition)).passes
+    (body_view f.body)).passes
 
 -- the places of old passes among all passes so far
 abbrev pub places : List ℕ → Vec Fold Global → Places
@@ -49,12 +52,14 @@ abbrev pub condition_hoisted : List ℕ → Vec Fold Global → Option Body → 
 condition_hoisted regs passes c = hoisted_condition (places regs passes) (condition_in c)
 
 abbrev pub fields_hoisted : Around → Vec Fold Global → IntoIter Field Global → HoistedFields
-fields_hoisted at passes fields = hoisted_fields at.regs.now at.depth (passes_in passes) (map field_view (into_iter_items fields))
+fields_hoisted at passes fields =
+    hoisted_fields at.regs.now at.depth (passes_in passes) (map field_view (into_iter_items fields))
 
 -- the binds that are left, and the fields behind them
 abbrev pub rest_hoisted : Around → Vec Fold Global → IntoIter Bind Global → IntoIter Field Global → HoistedItem
 rest_hoisted at passes binds fields =
-    hoisted_item at.regs.now at.depth (passes_in passes) (map bind_view (into_iter_items binds)) (map field_view (into_iter_items fields))
+    hoisted_item at.regs.now at.depth (passes_in passes) (map bind_view (into_iter_items binds))
+    (map field_view (into_iter_items fields))
 
 -- an item gets these binds behind what it had
 abbrev pub HasBinds : Item → Item → HoistedItem → Type 0
@@ -65,4 +70,5 @@ abbrev pub HasFields : Item → Item → HoistedItem → Type 0
 HasFields old new h = GainsFields old.fields new.fields h.fields
 
 abbrev pub item_hoisted : List ℕ → Vec Fold Global → Item → HoistedItem
-item_hoisted regs passes i = hoisted_item regs (length i.domain) (passes_in passes) (map bind_view i.binds.items) (map field_view i.fields.items)
+item_hoisted regs passes i = hoisted_item regs (length i.domain) (passes_in passes) (map bind_view i.binds.items)
+    (map field_view i.fields.items)

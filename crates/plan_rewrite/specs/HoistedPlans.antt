@@ -1,5 +1,5 @@
--- Hoisted plans: the passes of steps, each behind those that its own closed folds have become, then the condition, the binds
--- and the fields.
+-- Hoisted plans: the passes of steps, each behind those that its own closed folds have become, then the condition, the
+-- binds and the fields.
 use Rattle.std.specs.Prelude.{ℕ, ◌+◌, List, [], ◌∷◌, ◌++◌, map, length, Option, Some, None}
 use Rattle.arr_core.specs.declared.domain.Axis.{Axis}
 use Rattle.plan_ir.specs.Bodies.{Tree}
@@ -14,7 +14,11 @@ pub record Places : Type 0 where
 
 -- a pass whose body has been hoisted goes to the end
 abbrev pub with_body : List ℕ → PassTree → Tree → Hoist → Places
-with_body regs p c h = record { regs = regs ++ length h.passes ∷ []; passes = h.passes ++ pass_of p.op p.domain c h.body ∷ [] }
+with_body regs p c h = record {
+  regs = regs ++ length h.passes ∷ [];
+  passes =
+      h.passes ++ pass_of p.op p.domain c h.body ∷ [];
+}
 
 abbrev pub with_condition : List ℕ → PassTree → Hoist → Places
 with_condition regs p h = with_body regs p h.body (hoisting regs (length p.domain) h.passes p.body)
@@ -44,12 +48,14 @@ pub record HoistedFields : Type 0 where
   pub fields : List FieldBody
 
 abbrev pub before_fields : FieldBody → Hoist → HoistedFields → HoistedFields
-before_fields f h more = record { passes = more.passes; fields = record { boolean = f.boolean; body = h.body } ∷ more.fields }
+before_fields f h more = record
+    { passes = more.passes; fields = record { boolean = f.boolean; body = h.body } ∷ more.fields }
 
 abbrev pub hoisted_fields : List ℕ → ℕ → List PassTree → List FieldBody → HoistedFields
 hoisted_fields regs n passes [] = record { passes = passes; fields = [] }
 hoisted_fields regs n passes (f ∷ fields) =
-    before_fields f (hoisting regs n passes f.body) (hoisted_fields regs n (hoisting regs n passes f.body).passes fields)
+    before_fields f (hoisting regs n passes f.body)
+    (hoisted_fields regs n (hoisting regs n passes f.body).passes fields)
 
 -- all passes so far, binds and fields
 pub record HoistedItem : Type 0 where
@@ -61,12 +67,18 @@ abbrev pub without_binds : HoistedFields → HoistedItem
 without_binds h = record { passes = h.passes; binds = []; fields = h.fields }
 
 abbrev pub before_item : BindTree → Hoist → HoistedItem → HoistedItem
-before_item b h more = record { passes = more.passes; binds = record { position = h.body; lo = b.lo; hi = b.hi } ∷ more.binds; fields = more.fields }
+before_item b h more = record {
+  passes = more.passes;
+  binds =
+      record { position = h.body; lo = b.lo; hi = b.hi } ∷ more.binds;
+  fields = more.fields;
+}
 
 abbrev pub hoisted_item : List ℕ → ℕ → List PassTree → List BindTree → List FieldBody → HoistedItem
 hoisted_item regs n passes [] fields = without_binds (hoisted_fields regs n passes fields)
 hoisted_item regs n passes (b ∷ binds) fields =
-    before_item b (hoisting regs n passes b.position) (hoisted_item regs (n + 1) (hoisting regs n passes b.position).passes binds fields)
+    before_item b (hoisting regs n passes b.position)
+    (hoisted_item regs (n + 1) (hoisting regs n passes b.position).passes binds fields)
 
 -- an item on that domain
 abbrev pub item_on : List Axis → HoistedItem → ItemTree

@@ -22,8 +22,8 @@ pass_or_fold n passes f = cond (is_from n f.condition && is_from n f.body)
     (record { passes = passes ++ pass_without n f ∷ []; body = reg (length passes) })
     (record { passes = passes; body = fold f.op f.domain f.condition f.body })
 
--- A body under n variables, with passes before it: its closed folds have become further passes, the innermost first. regs
--- has the place of each old register.
+-- A body under n variables, with passes before it: its closed folds have become further passes, the innermost first.
+-- regs has the place of each old register.
 abbrev pub hoisting : List ℕ → ℕ → List PassTree → Tree → Hoist
 hoisting regs n passes (lit z) = record { passes = passes; body = lit z }
 hoisting regs n passes (var k) = record { passes = passes; body = var k }
@@ -37,4 +37,5 @@ hoisting regs n passes (bind i lo hi e) =
     in_body (bind (hoisting regs n passes i).body lo hi) (hoisting regs (n + 1) (hoisting regs n passes i).passes e)
 hoisting regs n passes (fold op box c e) =
     pass_or_fold n (hoisting regs (n + length box) (hoisting regs (n + length box) passes c).passes e).passes
-    (pass_of op box (hoisting regs (n + length box) passes c).body (hoisting regs (n + length box) (hoisting regs (n + length box) passes c).passes e).body)
+    (pass_of op box (hoisting regs (n + length box) passes c).body
+    (hoisting regs (n + length box) (hoisting regs (n + length box) passes c).passes e).body)

@@ -22,13 +22,15 @@ abbrev pub stand_in_for : List Index → List Interval → BindTree → Option I
 stand_in_for env scope b = stand_in scope b.lo b.hi (inlining env scope b.position)
 
 -- goes on with the variables after a bind
-abbrev pub after_bind : {A : Type 0} → List Index → List Interval → BindTree → Option Index → (List Index → List Interval → A) → A
+abbrev pub after_bind : {A : Type 0} → List Index → List Interval → BindTree → Option Index
+    → (List Index → List Interval → A) → A
 after_bind env scope b (Some i) go = go (env ++ i ∷ []) scope
 after_bind env scope b None go = go (env ++ Var (length scope) ∷ []) (scope ++ record { lo = b.lo; hi = b.hi } ∷ [])
 
 abbrev pub variables_after : List Index → List Interval → List BindTree → Variables
 variables_after env scope [] = record { env = env; scope = scope }
-variables_after env scope (b ∷ binds) = after_bind env scope b (stand_in_for env scope b) (λ env' scope'. variables_after env' scope' binds)
+variables_after env scope (b ∷ binds) =
+    after_bind env scope b (stand_in_for env scope b) (λ env' scope'. variables_after env' scope' binds)
 
 -- a bind that is inlined is left out
 abbrev pub unless_inlined : Option Index → Tree → BindTree → List BindTree → List BindTree
@@ -38,7 +40,8 @@ unless_inlined None p b rest = record { position = p; lo = b.lo; hi = b.hi } ∷
 abbrev pub kept_binds : List Index → List Interval → List BindTree → List BindTree
 kept_binds env scope [] = []
 kept_binds env scope (b ∷ binds) =
-    unless_inlined (stand_in_for env scope b) (inlining env scope b.position) b (after_bind env scope b (stand_in_for env scope b) (λ env' scope'. kept_binds env' scope' binds))
+    unless_inlined (stand_in_for env scope b) (inlining env scope b.position) b
+    (after_bind env scope b (stand_in_for env scope b) (λ env' scope'. kept_binds env' scope' binds))
 
 -- the binds that are left, as the code has them
 abbrev pub binds_kept : Vec Index Global → Vec Interval Global → IntoIter Bind Global → List BindTree
@@ -65,7 +68,12 @@ inlined_item i = record {
 }
 
 abbrev pub inlined_steps : StepsTree → StepsTree
-inlined_steps s = record { passes = map inlined_pass s.passes; condition = option_map (inlining [] []) s.condition; item = inlined_item s.item }
+inlined_steps s = record {
+  passes = map inlined_pass s.passes;
+  condition =
+      option_map (inlining [] []) s.condition;
+  item = inlined_item s.item;
+}
 
 abbrev pub inlined_plan : PlanTree → PlanTree
 inlined_plan p = record { coverages = p.coverages; steps = map inlined_steps p.steps; combinations = p.combinations }

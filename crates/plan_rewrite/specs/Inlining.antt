@@ -1,5 +1,5 @@
--- Inlining: a body with its variables renamed, and without the binds whose position is a literal or a variable inside their
--- interval.
+-- Inlining: a body with its variables renamed, and without the binds whose position is a literal or a variable inside
+-- their interval.
 use Rattle.std.specs.Prelude.{ℕ, ◌+◌, ℤ, pos, int_le, ◌&&◌, cond, List, [], ◌∷◌, ◌++◌, map, length, slice_get, slice_index_or, Option, Some, None, option_and_then}
 use Rattle.wcps_mean.specs.declared.cell.Outcome.{Outcome}
 use Rattle.wcps_mean.specs.declared.cell.Outcome.TheVariants.{Value, Fault}
@@ -51,10 +51,11 @@ constant_in lo hi (Some z) = cond (int_le lo z && int_le z hi) (Some (Const z)) 
 -- a variable all of whose numbers, of which there are some, lie from lo to hi
 abbrev pub variable_in : ℤ → ℤ → ℕ → Option Interval → Option Index
 variable_in lo hi k None = None
-variable_in lo hi k (Some i) = cond (int_le i.lo i.hi) (cond (int_le lo i.lo && int_le i.hi hi) (Some (Var k)) None) None
+variable_in lo hi k (Some i) =
+    cond (int_le i.lo i.hi) (cond (int_le lo i.lo && int_le i.hi hi) (Some (Var k)) None) None
 
--- What a position is inlined as: a literal inside the interval to its constant, a variable whose own interval lies inside
--- to itself. scope has the interval of each variable.
+-- What a position is inlined as: a literal inside the interval to its constant, a variable whose own interval lies
+-- inside to itself. scope has the interval of each variable.
 abbrev pub stand_in : List Interval → ℤ → ℤ → Tree → Option Index
 stand_in scope lo hi (lit z) = constant_in lo hi (Some z)
 stand_in scope lo hi (var k) = variable_in lo hi k (slice_get scope k)
@@ -67,9 +68,11 @@ stand_in scope lo hi (bind i l h e) = None
 stand_in scope lo hi (fold op box c e) = None
 
 -- a bind, or where its position is inlined as an index its body alone
-abbrev pub bind_or_go : List Index → List Interval → ℤ → ℤ → Tree → Option Index → (List Index → List Interval → Tree) → Tree
+abbrev pub bind_or_go : List Index → List Interval → ℤ → ℤ → Tree → Option Index → (List Index → List Interval → Tree)
+    → Tree
 bind_or_go env scope lo hi p (Some i) go = go (env ++ i ∷ []) scope
-bind_or_go env scope lo hi p None go = bind p lo hi (go (env ++ Var (length scope) ∷ []) (scope ++ record { lo = lo; hi = hi } ∷ []))
+bind_or_go env scope lo hi p None go =
+    bind p lo hi (go (env ++ Var (length scope) ∷ []) (scope ++ record { lo = lo; hi = hi } ∷ []))
 
 -- A body under the variables of scope, where env has an index for each variable of the old one.
 abbrev pub inlining : List Index → List Interval → Tree → Tree
@@ -81,7 +84,8 @@ inlining env scope (op2 op l r) = op2 op (inlining env scope l) (inlining env sc
 inlining env scope (read c f is) = read c f (map (index_for env) is)
 inlining env scope (table box items is) = table box items (map (index_for env) is)
 inlining env scope (bind p lo hi e) =
-    bind_or_go env scope lo hi (inlining env scope p) (stand_in scope lo hi (inlining env scope p)) (λ env' scope'. inlining env' scope' e)
+    bind_or_go env scope lo hi (inlining env scope p) (stand_in scope lo hi (inlining env scope p))
+    (λ env' scope'. inlining env' scope' e)
 inlining env scope (fold op box c e) =
     fold op box
     (inlining (env ++ levels (length scope) (spans box)) (scope ++ spans box) c)

@@ -15,15 +15,17 @@ use Rattle.plan_ir.specs.Planned.{planned, steps_planned}
 use Rattle.plan_ir.specs.Placed.{spans, IsPlaced, AreSteps}
 use Rattle.plan_ir.specs.Units.{steps_units}
 
--- The variables of the body are the iterators and behind them the coordinates of the point. It gives what the tree gives
--- there, and where the tree is well typed each of its reads has its place.
+-- The variables of the body are the iterators and behind them the coordinates of the point. It gives what the tree
+-- gives there, and where the tree is well typed each of its reads has its place.
 pub record IsBodyFor (iterators axes : List Axis) (t : Typed) (b : Tree) : Type 0 where
-  pub value : (s : ℕ → ℕ → List ℤ → ℤ) (regs : List Outcome) (env p : List ℤ) → length env ≡ length iterators → length p ≡ length axes
+  pub value : (s : ℕ → ℕ → List ℤ → ℤ) (regs : List Outcome) (env p : List ℤ) → length env ≡ length iterators
+      → length p ≡ length axes
       → run s regs b (env ++ p) ≡ val s t env p
-  pub placed : (cs : List Signature) (regs : ℕ) → IsTyped cs t iterators axes → IsPlaced (slice_get cs) regs (spans iterators ++ spans axes) b
+  pub placed : (cs : List Signature) (regs : ℕ) → IsTyped cs t iterators axes
+      → IsPlaced (slice_get cs) regs (spans iterators ++ spans axes) b
 
--- The steps give what the combination answers, each of their reads has its place where it is well typed, and they have at
--- most one unit more than its work.
+-- The steps give what the combination answers, each of their reads has its place where it is well typed, and they have
+-- at most one unit more than its work.
 pub record AreStepsFor (c : CombinationTree) (t : StepsTree) : Type 0 where
   pub planned : (s : ℕ → ℕ → List ℤ → ℤ) → steps_planned s t ≡ combination_answer s c
   pub placed : (cs : List Signature) → CombinationIsTyped cs c → AreSteps (slice_get cs) t

@@ -1,5 +1,5 @@
--- Lowering of items: the slices from an item down to its coverage or record stand once, as binds that all fields share; and
--- of what one choice of coverages gives: a condition, if any, and an item.
+-- Lowering of items: the slices from an item down to its coverage or record stand once, as binds that all fields share;
+-- and of what one choice of coverages gives: a condition, if any, and an item.
 use Rattle.std.specs.Prelude.{ℕ, ℤ, Bool, List, [], ◌∷◌, map, Option, option_map, Box}
 use Rattle.std.specs.Global.{Global}
 use Rattle.wcps_types.specs.declared.typed.Node.{Node}

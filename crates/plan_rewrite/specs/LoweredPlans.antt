@@ -19,11 +19,13 @@ use Rattle.plan_rewrite.specs.LoweredItems.{lowered_steps}
 abbrev pub lowered_tree : Tree → StepsTree
 lowered_tree t = lowered_steps t.condition t.item
 
--- Steps that stand for a tree: over the coverages of any combination they give what the tree gives, and each of their reads
--- has its place; their units and the points of their folds are within the work of the tree.
+-- Steps that stand for a tree: over the coverages of any combination they give what the tree gives, and each of their
+-- reads has its place; their units and the points of their folds are within the work of the tree.
 pub record StandsFor (c : CombinationTree) (t : StepsTree) : Type 0 where
-  pub planned : (s : ℕ → ℕ → List ℤ → ℤ) (ks : List ℕ) → steps_planned (cells_of s ks) t ≡ combination_answer s (renamed_combination ks c)
-  pub placed : (cs : List Signature) (ks : List ℕ) → CombinationIsTyped cs (renamed_combination ks c) → AreSteps (signature_of cs ks) t
+  pub planned : (s : ℕ → ℕ → List ℤ → ℤ) (ks : List ℕ)
+      → steps_planned (cells_of s ks) t ≡ combination_answer s (renamed_combination ks c)
+  pub placed : (cs : List Signature) (ks : List ℕ) → CombinationIsTyped cs (renamed_combination ks c)
+      → AreSteps (signature_of cs ks) t
   pub within : steps_units (Some t) + steps_folds (Some t) ≤ 1 + query_work (c ∷ [])
 
 -- there are steps where there is a tree, and they stand for it

@@ -1,5 +1,5 @@
--- Lowering: what a typed tree becomes under the variables of a body. Trims are left out, slices become binds, arrays give
--- their iterators away, and each cell is read at the indexes of the point.
+-- Lowering: what a typed tree becomes under the variables of a body. Trims are left out, slices become binds, arrays
+-- give their iterators away, and each cell is read at the indexes of the point.
 use Rattle.std.specs.Prelude.{ℕ, ℤ, pos, List, [], ◌∷◌, ◌++◌, length, slice_index_or, insert}
 use Rattle.arr_core.specs.declared.domain.Axis.{Axis}
 use Rattle.wcps_text.specs.declared.operator.Aggregate.{Aggregate}

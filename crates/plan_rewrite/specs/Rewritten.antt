@@ -1,4 +1,5 @@
--- What rewriting promises of a plan: it means the same, no bind is left that could be inlined, and no fold that is closed.
+-- What rewriting promises of a plan: it means the same, no bind is left that could be inlined, and no fold that is
+-- closed.
 use Rattle.std.specs.Prelude.{◌≡◌, ℕ, ℤ, ◌&&◌, false, List, length, None}
 use Rattle.plan_ir.specs.Plans.{PlanTree}
 use Rattle.plan_ir.specs.Planned.{planned}

@@ -15,9 +15,9 @@ use plan_ir::Plan;
 use std::alloc::{AllocError, Global};
 
 /// The plan inlined and then hoisted: a bind whose position is a literal inside its interval, or a variable whose own
-/// interval lies inside it, is left out, and that stands for its variable; then each fold that uses no variable from outside
-/// it is a pass, whose register stands in its place. A well-formed plan gives what it gave, faults included, and stays well-formed. The units grow by no
-/// more than the points of the folds.
+/// interval lies inside it, is left out, and that stands for its variable; then each fold that uses no variable from
+/// outside it is a pass, whose register stands in its place. A well-formed plan gives what it gave, faults included,
+/// and stays well-formed. The units grow by no more than the points of the folds.
 pub fn rewrite(alloc: Global, plan: Plan) -> Result<Plan, AllocError>
     ensures planned { IfOk result (λ r. IsPlan (plan_view plan) → MeansSame (plan_view plan) (plan_view r)) }
     ensures placed { IfOk result (λ r. IsPlan (plan_view plan) → IsPlan (plan_view r)) }

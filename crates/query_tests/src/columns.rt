@@ -174,8 +174,8 @@ fn narrow(alloc: Global, cells: &[i64]) -> Result<Column> {
     Ok(column)
 }
 
-/// A column of one outcome everywhere, as `=7`; of the values of a whole tile in 32 bits, as `~5,-6,7`; or of a first, an inner and a last outcome, as `DivideByZero,3,BadBit`,
-/// each a value or a fault of a division by 0 or of a bit 64.
+/// A column of one outcome everywhere, as `=7`; of the values of a whole tile in 32 bits, as `~5,-6,7`; or of a first,
+/// an inner and a last outcome, as `DivideByZero,3,BadBit`, each a value or a fault of a division by 0 or of a bit 64.
 pub fn column(alloc: Global, len: usize, words: &str) -> Result<Column> {
     if let Some(word) = words.strip_prefix("=") {
         return filled(alloc, len, outcome(word)?);

@@ -15,8 +15,8 @@ enum Device {
     Damaged,
 }
 
-/// Named coverages, and for each a list of numbers a field in row-major order. Where a list ends, its last number stands
-/// for the rest.
+/// Named coverages, and for each a list of numbers a field in row-major order. Where a list ends, its last number
+/// stands for the rest.
 #[derive(Drop)]
 pub struct Coverages {
     pub signatures: Vec<Signature>,
@@ -125,7 +125,7 @@ impl Coverages {
 }
 
 impl Cells for Coverages {
-    ghost use Rattle.std.specs.Prelude.{ℕ, ℤ, pos, List};
+    ghost use Rattle.std.specs.Prelude.{pos};
 
     ghost cells = { λ s c f p. pos 0 };
 

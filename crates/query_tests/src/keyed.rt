@@ -98,8 +98,8 @@ fn condensed_part(
     condensed(alloc, op, numbers, first, &keys, &cells)
 }
 
-/// Three accumulators that are told, each under its own number, of the cells of columns, each with the place of its first
-/// cell, its keys and its cells, as `sum 7 65 0:7,8,9:3,3,3 65:=7:1,1,1`. The numbers are 7, 8 and 9 then.
+/// Three accumulators that are told, each under its own number, of the cells of columns, each with the place of its
+/// first cell, its keys and its cells, as `sum 7 65 0:7,8,9:3,3,3 65:=7:1,1,1`. The numbers are 7, 8 and 9 then.
 pub fn keyed(alloc: Global, words: &str) -> Result<String> {
     let (op, rest) = cut(words);
     let (number, rest) = cut(rest);

@@ -1,6 +1,7 @@
-//! Worked values of the crates of queries, by their public calls, each a row of standard input: from a text to its tokens
-//! and its tree and back, to its type, its answer and its CSV; from a template of map algebra to its query; what queries
-//! become as plans, and what runs of plans give; operations and condensers of whole columns; and the numbers of jobs.
+//! Worked values of the crates of queries, by their public calls, each a row of standard input: from a text to its
+//! tokens and its tree and back, to its type, its answer and its CSV; from a template of map algebra to its query; what
+//! queries become as plans, and what runs of plans give; operations and condensers of whole columns; and the numbers of
+//! jobs.
 #![tactic(auto)]
 
 mod answers;

@@ -15,8 +15,6 @@ use wcps_text::BinaryOperator;
 struct Constant(i64);
 
 impl Cells for Constant {
-    ghost use Rattle.std.specs.Prelude.{ℕ, ℤ, List};
-
     ghost cells = { λ s c f p. s.0 };
 
     ghost kept = { λ _. tt };

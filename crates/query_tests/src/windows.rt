@@ -81,8 +81,8 @@ fn over_windows(alloc: Global, op: Aggregate, grid: &Grid<'_>, words: &str) -> R
     condensed(alloc, op, grid, down.as_slice(), across.as_slice())
 }
 
-/// The outcomes of the windows of a grid, as `sum 3 1,2,3,4,5,6 0-1,0-2 0-2,1-3`: its width, its cells, the spans of rows
-/// and those of columns.
+/// The outcomes of the windows of a grid, as `sum 3 1,2,3,4,5,6 0-1,0-2 0-2,1-3`: its width, its cells, the spans of
+/// rows and those of columns.
 pub fn windowed(alloc: Global, words: &str) -> Result<String> {
     let (op, rest) = cut(words);
     let (width, rest) = cut(rest);

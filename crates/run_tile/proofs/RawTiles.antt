@@ -1,5 +1,5 @@
 -- Cells one after the other: what they read as, and how many runs they make.
-use Rattle.std.proofs.Common.{◌≡◌, ◌↔◌, ℕ, ◌+◌, ◌*◌, ◌/◌, ◌<◌, ◌≤◌, ℤ, pos, List, [], ◌∷◌, ◌++◌, length, take, drop, get_or, sym, ap, ap₂, ◌∙◌, arith, mul-le-mul_right, append_assoc, length-append, length-drop, mul-div_cancel, below_more, subst, Bool, true, false, ◌&&◌, IsTrue, refl, ◌⊎◌, cond, All, lt-ltb, le-ltb, inl, inr}
+use Rattle.std.proofs.Common.{◌≡◌, ◌↔◌, ℕ, ◌+◌, ◌*◌, ◌/◌, ◌<◌, ◌≤◌, ℤ, pos, List, [], ◌∷◌, ◌++◌, length, take, drop, get_or, sym, ap, ap₂, ◌∙◌, arith, mul-le-mul_right, append_assoc, length-append, length-drop, mul-div_cancel, below_more, subst, Bool, true, false, ◌&&◌, IsTrue, refl, ◌⊎◌, cond, All, lt-ltb, inl, inr}
 use Rattle.std.specs.Prelude.{if◌then◌else◌}
 use Rattle.std.specs.Int.{w64}
 use Rattle.std.specs.Ordering.{int_eq}
@@ -100,9 +100,6 @@ raw-tile kind cells bytes fit whole read short =
       shorter = form.0;
       size = whole ∙ sym form.1;
     }
-
-pub runs-form : (kind : FieldType) (cells : List ℤ) → runs_size kind cells ≤ raw_size kind cells → (Runs ≡ form_of kind cells) × (tile_size kind cells ≡ runs_size kind cells)
-runs-form kind cells h = (ap (λ (b : Bool). if b then Raw else Runs) (sym (le-ltb (raw_size kind cells) (runs_size kind cells) h)), omega arith)
 
 -- a tile has some bytes, and no more than its cells take one after the other
 pub tile-bounds : (kind : FieldType) (cells : List ℤ) → 1 ≤ length cells → length cells ≤ 4096 → (1 ≤ tile_size kind cells) × (tile_size kind cells ≤ 32768)

@@ -15,10 +15,12 @@ pub record AreListed (kind : FieldType) (bytes : List ℕ) (values : List ℤ) (
 
 -- The runs from one place on up to another were listed behind those before them: with these they are sound and each
 -- differs from the one before it, or there is no spelling, and they have so many cells.
-pub record IsPart (kind : FieldType) (bytes : List ℕ) (values : List ℤ) (counts : List ℕ) (from end : ℕ) (part : Part) : Type 0 where
+pub record IsPart (kind : FieldType) (bytes : List ℕ) (values : List ℤ) (counts : List ℕ) (from end : ℕ)
+    (part : Part) : Type 0 where
   pub sound : IsTrue part.sound → AreListed kind bytes values counts end
   pub unsound : (part.sound ≡ false) → (list : List ℤ) → IsSpelling kind bytes list → ⊥
-  pub cells_are : length (cells_of (first_runs kind bytes from)) + part.cells ≡ length (cells_of (first_runs kind bytes end))
+  pub cells_are : length (cells_of (first_runs kind bytes from)) + part.cells ≡ length
+      (cells_of (first_runs kind bytes end))
 
 -- how many counts stand beside the cells that bytes read as in a form: one for each run, and none where each cell
 -- stands by itself

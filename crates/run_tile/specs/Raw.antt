@@ -33,7 +33,8 @@ runs_size kind cells = runs_in cells * run_size kind
 abbrev pub runs_from : FieldType → List ℕ → ℕ → ℕ
 runs_from kind bytes place = runs_in (drop place (raw_cells kind bytes))
 
--- The bytes are the cells one after the other and nothing else, each in the type's range, and fewer than their runs take.
+-- The bytes are the cells one after the other and nothing else, each in the type's range, and fewer than their runs
+-- take.
 pub record IsRawSpelling (kind : FieldType) (bytes : List ℕ) (cells : List ℤ) : Type 0 where
   pub whole : length bytes ≡ raw_size kind cells
   pub fit : All (Fits kind) cells

@@ -1,6 +1,6 @@
 //! Bytes to cells.
 
-ghost use Rattle.std.specs.Prelude.{◌≡◌, ◌≤◌, ◌<◌, ℤ, List, length, vec_capacity, IfOk, OnOk, IsErrOf, IsTrue, false};
+ghost use Rattle.std.specs.Prelude.{◌≡◌, ◌≤◌, ◌<◌, length, vec_capacity, IfOk, OnOk, IsErrOf, IsTrue, false};
 ghost use Rattle.arr_core.specs.Runs.{cells_of};
 ghost use Rattle.run_tile.specs.Listing.{counts_in};
 ghost use Rattle.run_tile.specs.Raw.{Spells, IsOfNone};

@@ -1,9 +1,9 @@
 //! Cells to bytes.
 
-ghost use Rattle.std.specs.Prelude.{◌≡◌, ◌≢◌, ◌+◌, ◌*◌, ◌<◌, ◌≤◌, ℕ, ℤ, List, length, ◌++◌, All, IfOk, OnOk, IsTrue, get_or, slice_index_or, pos};
+ghost use Rattle.std.specs.Prelude.{◌≡◌, ◌≢◌, ◌+◌, ◌*◌, ◌<◌, ◌≤◌, ℕ, length, ◌++◌, All, IfOk, OnOk, get_or, pos};
 ghost use Rattle.arr_core.specs.Cells.{Fits};
 ghost use Rattle.arr_core.specs.Limits.{max_tile};
-ghost use Rattle.run_tile.specs.Runs.{IsSpelling, IsRun, runs_in, run_size};
+ghost use Rattle.run_tile.specs.Runs.{IsRun};
 ghost use Rattle.run_tile.specs.Bytes.{run_bytes};
 ghost use Rattle.run_tile.specs.Raw.{Spells, IsTile, AreRunsUpTo, form_of, raw_size, runs_size, tile_size};
 
@@ -77,8 +77,8 @@ fn encode_runs(
 /// How many of the first cells are looked at for noise.
 const FIRST: usize = 64;
 
-/// Whether cells look like noise: whether the first ones take more bytes in runs than one after the other. Noise is found
-/// here, before its runs would be written.
+/// Whether cells look like noise: whether the first ones take more bytes in runs than one after the other. Noise is
+/// found here, before its runs would be written.
 fn seems_noisy(kind: FieldType, cells: &[i64]) -> bool {
     let first = cells.len().min(FIRST);
     let mut runs: usize = 1;
@@ -101,8 +101,8 @@ fn raw_tile(alloc: Global, kind: FieldType, cells: &[i64]) -> Result<(Form, Vec<
     Ok((Form::Raw, bytes))
 }
 
-/// The bytes that spell the cells, and their form: the cells one after the other where that takes fewer bytes than their
-/// runs, else runs, each as long as it can be. 1 to 32,768 bytes.
+/// The bytes that spell the cells, and their form: the cells one after the other where that takes fewer bytes than
+/// their runs, else runs, each as long as it can be. 1 to 32,768 bytes.
 pub fn encode(alloc: Global, kind: FieldType, cells: &[i64]) -> Result<(Form, Vec<u8>), AllocError>
     requires some { 1 ≤ length cells.now }
     requires few { length cells.now ≤ max_tile }

@@ -1,9 +1,7 @@
 //! Cells one after the other, each in the width of its type.
 
-ghost use Rattle.std.specs.Prelude.{◌≡◌, ◌+◌, ◌-◌, ◌*◌, ◌≤◌, ◌<◌, ◌++◌, ◌↔◌, ℕ, ℤ, List, length, map, drop, All, pos, false, get_or, cond, IsTrue, IfOk};
+ghost use Rattle.std.specs.Prelude.{◌≡◌, ◌+◌, ◌-◌, ◌*◌, ◌≤◌, ◌<◌, ◌↔◌, ℕ, length, map, All, pos, false, get_or, cond, IsTrue, IfOk};
 ghost use Rattle.std.specs.Ordering.{int_eq};
-ghost use Rattle.std.specs.Int.{w64};
-ghost use Rattle.byteorder.specs.Endian.{little_bytes, low_bytes};
 ghost use Rattle.arr_core.specs.Cells.{Fits};
 ghost use Rattle.arr_core.specs.Limits.{max_tile};
 ghost use Rattle.run_tile.specs.Types.{width_of};
@@ -44,7 +42,8 @@ fn repeats_at(kind: FieldType, bytes: &[u8], place: usize) -> u16
     }
 }
 
-/// How many of the values from one place on up to a later one begin a run. They are compared in the width of their type.
+/// How many of the values from one place on up to a later one begin a run. They are compared in the width of their
+/// type.
 #[inline(always)]
 fn count_starts(kind: FieldType, bytes: &[u8], from: usize, end: usize) -> usize
     requires some { 1 ≤ from }

@@ -1,6 +1,6 @@
 //! The runs of a tile, read one after another into its cells.
 
-ghost use Rattle.std.specs.Prelude.{◌≡◌, ◌+◌, ◌≤◌, ◌<◌, ◌++◌, ℤ, None, false, List, length, take, replicate, IfSome, IfNone, IsTrue, ◌↔◌, Some};
+ghost use Rattle.std.specs.Prelude.{◌≡◌, ◌+◌, ◌≤◌, ◌<◌, ◌++◌, None, false, length, take, replicate, IfSome, IfNone, IsTrue, ◌↔◌, Some};
 ghost use Rattle.run_tile.specs.Runs.{IsSpelling, IsNoSpelling, run_count};
 ghost use Rattle.run_tile.specs.Reading.{AreRead};
 

@@ -1,6 +1,6 @@
-//! Readers and writers that tell whether they have failed, and writers that tell whether bytes wait for a flush. std's `Read`
-//! and `Write` tell the bytes alone, so of code over them nobody could prove that it speaks of a fault only where a call had
-//! one, or that it flushes what it wrote; over `Source` and `Sink` it can be proved.
+//! Readers and writers that tell whether they have failed, and writers that tell whether bytes wait for a flush. std's
+//! `Read` and `Write` tell the bytes alone, so of code over them nobody could prove that it speaks of a fault only
+//! where a call had one, or that it flushes what it wrote; over `Source` and `Sink` it can be proved.
 #![tactic(auto)]
 
 ghost use Rattle.std.specs.Prelude.{None};

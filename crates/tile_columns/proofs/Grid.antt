@@ -140,7 +140,8 @@ window_cells a b f cells d s oa ob e hd hs =
     (λ r. sym (map_map (λ x. f ((a.lo +ℤ pos r) ∷ x ∷ [])) (λ c. b.lo +ℤ pos c) (in_span s)))
     ∙ sym (flat_map-map (λ y. map (λ x. f (y ∷ x ∷ [])) (along b.lo s)) (λ r. a.lo +ℤ pos r) (in_span d))
 
--- what becomes of the cells of each window is what becomes of the cells at the numbers that each row and each column reaches
+-- what becomes of the cells of each window is what becomes of the cells at the numbers that each row and each column
+-- reaches
 pub windows_cross : {Y : Type 0} (come : List ℤ → Y) (a b : Axis) (f : List ℤ → ℤ) (cells : List ℤ) (down across : List Span) (up side : ℤ → List ℤ) (rows columns : List ℤ)
     → a.lo ≤ℤ a.hi → b.lo ≤ℤ b.hi → cells ≡ map f (points (a ∷ b ∷ [])) → All (EndsBy (size_of a)) down → All (EndsBy (size_of b)) across
     → map (along a.lo) down ≡ map up rows → map (along b.lo) across ≡ map side columns

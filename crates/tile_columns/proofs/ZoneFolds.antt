@@ -146,7 +146,8 @@ told_joined box (Within shape) g e vars xs =
 pub is_t : {b : Bool} → b ≡ true → T b
 is_t e = subst T (sym e) tt
 
--- what the condition and the body give at a point of a place is told by the place's key and by what their bodies give under the variables of another place
+-- what the condition and the body give at a point of a place is told by the place's key and by what their bodies give
+-- under the variables of another place
 pub zone_parts : (s : ℕ → ℕ → List ℤ → ℤ) (regs : List Outcome) (role : Role) (condition body own key : Tree) (first : Bool) (depth : ℕ) (one vars x : List ℤ) → IsZoned depth role condition body own key first → length one ≡ depth → length vars ≡ depth
     → (condition_of role (compared first (run s regs key vars) (run s regs own (one ++ x))) ≡ run s regs condition (vars ++ x))
     × (value_of role (compared first (run s regs key vars) (run s regs own (one ++ x))) (run s regs (other_in role body) (one ++ x)) ≡ run s regs body (vars ++ x))

@@ -13,7 +13,8 @@ coordinate_or_lo lo hi (Value z) = cond (int_le lo z && int_le z hi) z lo
 
 -- the position at each place, tested against lo to hi, and what there is at a coordinate of each
 abbrev pub at_positions : List Outcome → ℤ → ℤ → (ℕ → ℤ → Outcome) → List Outcome
-at_positions positions lo hi go = map (λ k. at_position (outcome_at positions k) lo hi (go k)) (range_with_len 0 (length positions))
+at_positions positions lo hi go =
+    map (λ k. at_position (outcome_at positions k) lo hi (go k)) (range_with_len 0 (length positions))
 
 -- a position that lies from lo to hi, so that each outcome stands
 abbrev pub IsSettled : ℤ → ℤ → Outcome → Type 0

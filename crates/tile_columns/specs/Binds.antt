@@ -19,12 +19,14 @@ HasPlaceBehind s b e envs =
 -- a column has what a bind gives: its body where the position lies in the interval, else the fault
 abbrev pub IsColumnBehind : {K : Type 0} → SourceState K → Bound → Body → List (List ℤ) → List Outcome → Type 0
 IsColumnBehind s b e envs column =
-    s.intact → column ≡ at_positions b.positions.now b.interval.lo b.interval.hi (with_coordinate (meaning s b.ground.now (body_view e)) envs)
+    s.intact → column ≡ at_positions b.positions.now b.interval.lo b.interval.hi
+    (with_coordinate (meaning s b.ground.now (body_view e)) envs)
 
 -- a column has what its body gives under the coordinates of the positions, or the lower bound where there is none
 abbrev pub IsColumnUnder : {K : Type 0} → SourceState K → Bound → Body → List (List ℤ) → List Outcome → Type 0
 IsColumnUnder s b e envs column =
-    IsColumnOf s b.ground.now (body_view e) (extended envs (map (coordinate_or_lo b.interval.lo b.interval.hi) b.positions.now)) column
+    IsColumnOf s b.ground.now (body_view e)
+    (extended envs (map (coordinate_or_lo b.interval.lo b.interval.hi) b.positions.now)) column
 
 -- no more tiles are fetched than the body asks for
 abbrev pub FetchesBehind : {S A E : Type 0} → Result A E → Bound → Body → List (List ℤ) → Ghosts S → S → S → Type 0

@@ -8,7 +8,8 @@ use Rattle.tile_kernel.specs.declared.accumulator.Accumulator.{Accumulator}
 use Rattle.tile_kernel.specs.Told.{Told}
 use Rattle.tile_kernel.specs.Standing.{Stands}
 
--- whether a condenser keeps of values what it keeps of those that are not 0: a sum, an average, a count, whether some one is true
+-- whether a condenser keeps of values what it keeps of those that are not 0: a sum, an average, a count, whether some
+-- one is true
 abbrev pub skips_zeros : Aggregate → Bool
 skips_zeros Sum = true
 skips_zeros Product = false
@@ -30,8 +31,11 @@ pub data AddsZeros : List Told → List Told → Type 0 where
 
 -- the second accumulator stands for so many points: those of the first and further ones whose value is 0
 abbrev pub CountsZeros : ℕ → Accumulator → Accumulator → Type 0
-CountsZeros count before after = (told more : List Told) → Stands before told → AddsZeros told more → length more ≡ count → Stands after more
+CountsZeros count before after =
+    (told more : List Told) → Stands before told → AddsZeros told more → length more ≡ count → Stands after more
 
 -- each of them does
 abbrev pub EachCountsZeros : ℕ → List Accumulator → List Accumulator → Type 0
-EachCountsZeros count before after = (k : ℕ) (d : Accumulator) → k < length before → CountsZeros count (slice_index_or before k d) (slice_index_or after k d)
+EachCountsZeros count before after =
+    (k : ℕ) (d : Accumulator) → k < length before
+    → CountsZeros count (slice_index_or before k d) (slice_index_or after k d)

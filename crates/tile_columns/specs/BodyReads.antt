@@ -16,4 +16,6 @@ read_view r = read r.coverage r.field r.indexes.now
 
 -- each tile that a read needs at the places of a frame is fetched once at most
 abbrev pub FetchesTilesOf : {S : Type 0} → Ground → BodyRead → List (List ℤ) → Ghosts S → S → S → Type 0
-FetchesTilesOf g r envs t old new = FetchesOnce (map (λ e. tile_number (domain_of (chosen (t.state old) g r.coverage)) (numbers_at e r.indexes.now)) envs) t old new
+FetchesTilesOf g r envs t old new =
+    FetchesOnce (map (λ e. tile_number (domain_of (chosen (t.state old) g r.coverage)) (numbers_at e r.indexes.now))
+    envs) t old new

@@ -26,8 +26,10 @@ told_ranked box c e vars x = demanded_of (rank_of box x) (under_vars c vars x) (
 
 -- the accumulator at a place takes in what another one was told, and the others stay as they are
 pub record MergesAt (place : ℕ) (found : Accumulator) (before after : List Accumulator) : Type 0 where
-  pub told : (more : List Told) (d : Accumulator) → Stands found more → TakesIn (slice_index_or before place d) (slice_index_or after place d) more
-  pub count : (d : Accumulator) → (slice_index_or after place d).running.count ≡ (slice_index_or before place d).running.count + found.running.count
+  pub told : (more : List Told) (d : Accumulator) → Stands found more
+      → TakesIn (slice_index_or before place d) (slice_index_or after place d) more
+  pub count : (d : Accumulator) → (slice_index_or after place d).running.count ≡
+      (slice_index_or before place d).running.count + found.running.count
   pub kinds : (op : Aggregate) → AreOf op before → AreOf op after
   pub others : (k : ℕ) (d : Accumulator) → k ≢ place → slice_index_or after k d ≡ slice_index_or before k d
 
@@ -38,5 +40,6 @@ HasRoomAt place n folds = (d : Accumulator) → (slice_index_or folds place d).r
 -- outcomes are what a condenser makes of the points that each accumulator stands for, in the order of their places
 abbrev pub AreOutcomesOf : List Accumulator → List Outcome → Type 0
 AreOutcomesOf folds list =
-    (op : Aggregate) (told : ℕ → List Told) → AreOf op folds → EachStands folds told → ((k : ℕ) → k < length folds → AreRising (told k))
+    (op : Aggregate) (told : ℕ → List Told) → AreOf op folds → EachStands folds told
+    → ((k : ℕ) → k < length folds → AreRising (told k))
     → list ≡ map (λ k. condensed op (outcomes (told k))) (range_with_len 0 (length folds))

@@ -11,21 +11,24 @@ use Rattle.tile_columns.specs.declared.covering.Covered.{Covered}
 use Rattle.tile_columns.specs.Frames.{environment, turn, turns}
 
 -- an index turns over what tiles have of an axis at a place, each coordinate so many times
-pub record TurnsAlong (edge : ℕ) (a : Axis) (variables : List Variable) (i : Index) (every : ℕ) (s : AxisPart) : Type 0 where
-  pub within : s.place ≤ gap a.lo a.hi / edge
-  pub size : s.size ≡ size_of (part_of edge a (pos s.place))
-  pub turns : (k : ℕ) → number_at (environment variables k) i ≡ turn (part_of edge a (pos s.place)).lo (part_of edge a (pos s.place)).hi every k
+pub record TurnsAlong (edge : ℕ) (a : Axis) (variables : List Variable) (i : Index) (every : ℕ) (s : AxisPart) : Type 0
+  where
+    pub within : s.place ≤ gap a.lo a.hi / edge
+    pub size : s.size ≡ size_of (part_of edge a (pos s.place))
+    pub turns : (k : ℕ) → number_at (environment variables k) i ≡ turn (part_of edge a (pos s.place)).lo
+        (part_of edge a (pos s.place)).hi every k
 
 -- the box of the tile with a number among those of some axes
 abbrev pub box_of_tile : ℕ → List Axis → ℕ → List Axis
 box_of_tile edge axes n = box_at edge axes (point_at (grid edge axes) n)
 
 -- indexes turn over the box of a tile of some axes
-pub record TurnsOver (edge : ℕ) (variables : List Variable) (is : List Index) (axes : List Axis) (t : Covered) : Type 0 where
-  pub tiles : t.tiles ≡ count (grid edge axes)
-  pub number : t.number < t.tiles
-  pub points : t.points ≡ count (box_of_tile edge axes t.number)
-  pub turns : (k : ℕ) → numbers_at (environment variables k) is ≡ turns (box_of_tile edge axes t.number) k
+pub record TurnsOver (edge : ℕ) (variables : List Variable) (is : List Index) (axes : List Axis) (t : Covered) : Type 0
+  where
+    pub tiles : t.tiles ≡ count (grid edge axes)
+    pub number : t.number < t.tiles
+    pub points : t.points ≡ count (box_of_tile edge axes t.number)
+    pub turns : (k : ℕ) → numbers_at (environment variables k) is ≡ turns (box_of_tile edge axes t.number) k
 
 -- indexes go over the box of the tile with a number, point for point
 abbrev pub GoesOver : List Axis → List Index → List (List ℤ) → ℕ → Type 0

@@ -26,7 +26,8 @@ behind [] e = e
 behind (b ∷ binds) e = bind b.position b.lo b.hi (behind binds e)
 
 -- a column for each field: the outcomes of its body behind the binds
-abbrev pub columns_behind : (ℕ → ℕ → List ℤ → ℤ) → List Outcome → List BindTree → List FieldBody → List (List ℤ) → List (List Outcome)
+abbrev pub columns_behind : (ℕ → ℕ → List ℤ → ℤ) → List Outcome → List BindTree → List FieldBody → List (List ℤ)
+    → List (List Outcome)
 columns_behind s regs binds fields envs = map (λ (f : FieldBody). map (run s regs (behind binds f.body)) envs) fields
 
 -- each column has so many places
@@ -46,22 +47,28 @@ abbrev pub blank_by : List Outcome → ℤ → ℤ → List Outcome
 blank_by positions lo hi = settled_by positions lo hi (replicate (length positions) (Value (pos 0)))
 
 -- binds, and fields behind them, have their places under the variables of a frame
-pub record FieldsHavePlace (cs : ℕ → Option Signature) (regs : ℕ) (binds : List BindTree) (fields : List FieldBody) (envs : List (List ℤ)) : Type 0 where
+pub record FieldsHavePlace (cs : ℕ → Option Signature) (regs : ℕ) (binds : List BindTree) (fields : List FieldBody)
+    (envs : List (List ℤ)) : Type 0 where
   pub scope : List Interval
   pub placed : ItemIsPlaced cs regs scope binds fields
   pub within : All (AreWithin scope) envs
 
 -- the same over a source of tiles
 abbrev pub HavePlaceOver : {K : Type 0} → SourceState K → Ground → List Bind → List Field → List (List ℤ) → Type 0
-HavePlaceOver s g binds fields envs = FieldsHavePlace (chosen s g) (length g.registers.now) (map bind_view binds) (map field_view fields) envs
+HavePlaceOver s g binds fields envs =
+    FieldsHavePlace (chosen s g) (length g.registers.now) (map bind_view binds) (map field_view fields) envs
 
 -- columns have what fields give behind binds at the places of a frame
-abbrev pub AreColumnsOf : {K : Type 0} → SourceState K → Ground → List Bind → List Field → List (List ℤ) → List (List Outcome) → Type 0
+abbrev pub AreColumnsOf : {K : Type 0} → SourceState K → Ground → List Bind → List Field → List (List ℤ)
+    → List (List Outcome) → Type 0
 AreColumnsOf s g binds fields envs columns =
-    s.intact → columns ≡ columns_behind (cells_of s.cells g.coverages.now) g.registers.now (map bind_view binds) (map field_view fields) envs
+    s.intact → columns ≡ columns_behind (cells_of s.cells g.coverages.now) g.registers.now (map bind_view binds)
+    (map field_view fields) envs
 
 -- a call that was done fetched no more tiles than the positions of binds and the bodies of fields ask for
-abbrev pub FetchAll : {S A E : Type 0} → Result A E → Ground → List Bind → List Field → List (List ℤ) → Ghosts S → S → S → Type 0
+abbrev pub FetchAll : {S A E : Type 0} → Result A E → Ground → List Bind → List Field → List (List ℤ) → Ghosts S → S → S
+    → Type 0
 FetchAll result g binds fields envs t old new =
     OnOk result ((n : ℕ) → All (λ (e : List ℤ). n ≤ length e) envs
-    → FetchesAtMost (sum_by (fetches (chosen (t.state old) g) n envs) (bodies_behind (map bind_view binds) (map field_view fields))) (t.state old) (t.state new))
+    → FetchesAtMost (sum_by (fetches (chosen (t.state old) g) n envs)
+    (bodies_behind (map bind_view binds) (map field_view fields))) (t.state old) (t.state new))

@@ -27,10 +27,11 @@ pub record FoldHasPlace {K : Type 0} (s : SourceState K) (g : Ground) (f : Fold)
   pub place : HasPlaceOver s g (fold_view f) envs
 
 -- its condition and its body have theirs, where the last variables are a point of its box
-pub record BodiesHavePlace {K : Type 0} (s : SourceState K) (g : Ground) (f : Fold) (envs : List (List ℤ)) : Type 0 where
-  pub signatures : IsGroundOf s g
-  pub condition : HasPlaceOver s g (condition_view f.condition) envs
-  pub body : HasPlaceOver s g (body_view f.body) envs
+pub record BodiesHavePlace {K : Type 0} (s : SourceState K) (g : Ground) (f : Fold) (envs : List (List ℤ)) : Type 0
+  where
+    pub signatures : IsGroundOf s g
+    pub condition : HasPlaceOver s g (condition_view f.condition) envs
+    pub body : HasPlaceOver s g (body_view f.body) envs
 
 -- what its condition and its body give
 abbrev pub condition_at : {K : Type 0} → SourceState K → Ground → Fold → List ℤ → Outcome
@@ -52,26 +53,34 @@ abbrev pub listed : {K : Type 0} → SourceState K → Ground → Fold → List 
 listed s g f xs vars = told_of (under_vars (condition_at s g f) vars) (under_vars (body_at s g f) vars) 0 xs
 
 -- accumulators, one for each place of a frame, take in what all points of a fold's box add there
-abbrev pub TakeInFold : {K : Type 0} → SourceState K → Ground → Fold → List (List ℤ) → List Accumulator → List Accumulator → Type 0
+abbrev pub TakeInFold : {K : Type 0} → SourceState K → Ground → Fold → List (List ℤ) → List Accumulator
+    → List Accumulator → Type 0
 TakeInFold s g f envs old new =
     s.intact → EachTakesIn old new (λ k. listed s g f (points f.domain) (slice_index_or envs k []))
 
 -- the same of the points of a part
-abbrev pub TakeInBox : {K : Type 0} → SourceState K → Around → Fold → Part → List Accumulator → List Accumulator → Type 0
-TakeInBox s a f p old new = s.intact → EachTakesIn old new (λ k. added_by s a.ground.now f (points p.area) (slice_index_or a.frame.now k []))
+abbrev pub TakeInBox : {K : Type 0} → SourceState K → Around → Fold → Part → List Accumulator → List Accumulator
+    → Type 0
+TakeInBox s a f p old new = s.intact
+    → EachTakesIn old new (λ k. added_by s a.ground.now f (points p.area) (slice_index_or a.frame.now k []))
 
 -- of the n-th point
-abbrev pub TakeInPoint : {K : Type 0} → SourceState K → Point → Fold → List (List ℤ) → List Accumulator → List Accumulator → Type 0
+abbrev pub TakeInPoint : {K : Type 0} → SourceState K → Point → Fold → List (List ℤ) → List Accumulator
+    → List Accumulator → Type 0
 TakeInPoint s p f envs old new =
-    s.intact → EachTakesIn old new (λ k. added s p.ground.now f p.place (slice_index_or envs k [] ++ slice_index_or (points f.domain) p.place []))
+    s.intact → EachTakesIn old new
+    (λ k. added s p.ground.now f p.place (slice_index_or envs k [] ++ slice_index_or (points f.domain) p.place []))
 
 -- and of the n-th point, whose coordinates the frame has already
-abbrev pub TakeInLast : {K : Type 0} → SourceState K → Point → Fold → List (List ℤ) → List Accumulator → List Accumulator → Type 0
-TakeInLast s p f envs old new = s.intact → EachTakesIn old new (λ k. added s p.ground.now f p.place (slice_index_or envs k []))
+abbrev pub TakeInLast : {K : Type 0} → SourceState K → Point → Fold → List (List ℤ) → List Accumulator
+    → List Accumulator → Type 0
+TakeInLast s p f envs old new =
+    s.intact → EachTakesIn old new (λ k. added s p.ground.now f p.place (slice_index_or envs k []))
 
 -- an accumulator stands for what the places of such a frame add, as points of the box with these ranks
 abbrev pub StandsFor : {K : Type 0} → SourceState K → Ground → Fold → List ℕ → List (List ℤ) → Accumulator → Type 0
-StandsFor s g f ranks envs a = s.intact → Stands a (demanded_at ranks (map (condition_at s g f) envs) (map (body_at s g f) envs))
+StandsFor s g f ranks envs a =
+    s.intact → Stands a (demanded_at ranks (map (condition_at s g f) envs) (map (body_at s g f) envs))
 
 -- accumulators are a fold's: one for each place of a frame, of its kind, each told of n points at most
 pub record AreOfFold (f : Fold) (envs : List (List ℤ)) (n : ℕ) (folds : List Accumulator) : Type 0 where
@@ -86,7 +95,8 @@ GrowBy f p envs old new = (n : ℕ) → AreOfFold f envs n old → AreOfFold f e
 -- at most so many tiles are fetched as a fold's condition and body ask for at so many points
 abbrev pub FetchesPoints : {S : Type 0} → Fold → ℕ → Ghosts S → S → S → Type 0
 FetchesPoints f n t old new =
-    FetchesAtMost (bound_times n (condition_view f.condition) + bound_times n (body_view f.body)) (t.state old) (t.state new)
+    FetchesAtMost (bound_times n (condition_view f.condition) + bound_times n (body_view f.body)) (t.state old)
+    (t.state new)
 
 -- at a point of each place of a frame; at all points of a part at each place; at all points of the box
 abbrev pub FetchesPoint : {S : Type 0} → Fold → List (List ℤ) → Ghosts S → S → S → Type 0
@@ -98,8 +108,8 @@ FetchesPart f p a t old new = FetchesPoints f (length a.frame.now * count p.area
 abbrev pub FetchesFold : {S : Type 0} → Fold → List (List ℤ) → Ghosts S → S → S → Type 0
 FetchesFold f envs t old new = FetchesPoints f (length envs * count f.domain) t old new
 
--- a column has what the other body of a fold of zones gives at the places of a frame, and no more tiles are fetched than
--- that asks for there
+-- a column has what the other body of a fold of zones gives at the places of a frame, and no more tiles are fetched
+-- than that asks for there
 abbrev pub IsColumnOfOther : {K : Type 0} → SourceState K → Zoning → Fold → List (List ℤ) → List Outcome → Type 0
 IsColumnOfOther s z f envs column = IsColumnOf s z.ground.now (other_of f z.zones) envs column
 
@@ -114,19 +124,24 @@ AreKeysOf s z f = IsColumnOf s z.zoning.ground.now (key_of f z.zoning.zones) z.f
 abbrev pub TakeInZones : {K : Type 0} → SourceState K → Zoned → Fold → List Accumulator → List Accumulator → Type 0
 TakeInZones s z f old new = AreKeysOf s z f → TakeInFold s z.zoning.ground.now f z.frame.now old new
 
-abbrev pub TakeInZone : {K : Type 0} → SourceState K → Zoned → Fold → Part → List Accumulator → List Accumulator → Type 0
+abbrev pub TakeInZone : {K : Type 0} → SourceState K → Zoned → Fold → Part → List Accumulator → List Accumulator
+    → Type 0
 TakeInZone s z f p old new =
-    AreKeysOf s z f → s.intact → EachTakesIn old new (λ k. added_by s z.zoning.ground.now f (points p.area) (slice_index_or z.frame.now k []))
+    AreKeysOf s z f → s.intact → EachTakesIn old new
+    (λ k. added_by s z.zoning.ground.now f (points p.area) (slice_index_or z.frame.now k []))
 
 -- at most so many tiles are fetched as the key of a fold of zones asks for at the places of a frame, and its other two
 -- bodies at the points of the box
 abbrev pub FetchesByZones : {S : Type 0} → Zoning → Fold → List (List ℤ) → Ghosts S → S → S → Type 0
 FetchesByZones z f envs t old new =
-    FetchesAtMost (bound_times (length envs) (key_of f z.zones) + (bound_times (count f.domain) (own_of f z.zones) + bound_times (count f.domain) (other_of f z.zones))) (t.state old) (t.state new)
+    FetchesAtMost (bound_times (length envs)
+    (key_of f z.zones) + (bound_times (count f.domain) (own_of f z.zones) + bound_times (count f.domain)
+    (other_of f z.zones))) (t.state old) (t.state new)
 
 -- at most so many tiles are fetched as the bodies of a fold of zones ask for at so many points of its box
 abbrev pub FetchesOwn : {S : Type 0} → Zoned → Fold → ℕ → Ghosts S → S → S → Type 0
-FetchesOwn z f n t old new = FetchesAtMost (bound_times n (own_of f z.zoning.zones) + bound_times n (other_of f z.zoning.zones)) (t.state old) (t.state new)
+FetchesOwn z f n t old new = FetchesAtMost
+    (bound_times n (own_of f z.zoning.zones) + bound_times n (other_of f z.zoning.zones)) (t.state old) (t.state new)
 
 abbrev pub FetchesZones : {S : Type 0} → Zoned → Fold → Ghosts S → S → S → Type 0
 FetchesZones z f t old new = FetchesOwn z f (count f.domain) t old new

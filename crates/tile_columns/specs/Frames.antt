@@ -8,8 +8,8 @@ use Rattle.tile_columns.specs.declared.frame.Variable.{Variable}
 use Rattle.tile_columns.specs.declared.numbers.Turn.{Turn}
 use Rattle.tile_columns.specs.declared.frame.Variable.TheVariants as variable
 
--- the coordinate of an axis at a place: each coordinate comes so many times, one after the other, and after the last one
--- the first one comes again
+-- the coordinate of an axis at a place: each coordinate comes so many times, one after the other, and after the last
+-- one the first one comes again
 abbrev pub turn : ℤ → ℤ → ℕ → ℕ → ℤ
 turn lo hi every place = lo +ℤ pos ((place / every) % (gap lo hi + 1))
 
@@ -63,7 +63,8 @@ under envs numbers = map (λ e. e ++ numbers) envs
 
 -- with one more variable, which has a number for each place
 abbrev pub extended : List (List ℤ) → List ℤ → List (List ℤ)
-extended envs zs = map (λ k. slice_index_or envs k [] ++ slice_index_or zs k (pos 0) ∷ []) (range_with_len 0 (length envs))
+extended envs zs = map (λ k. slice_index_or envs k [] ++ slice_index_or zs k (pos 0) ∷ [])
+    (range_with_len 0 (length envs))
 
 -- the coordinates of all axes at a place, the last one fastest
 abbrev pub turns : List Axis → ℕ → List ℤ

@@ -13,13 +13,16 @@ IsSeen seen n = list_any (λ m. nat_eq m n) seen ≡ true
 
 -- the ranks at the places whose tile is this one are within its cells
 abbrev pub HasRanks : ℕ → List ℕ → List ℕ → List ℤ → Type 0
-HasRanks number numbers ranks tile = (j : ℕ) → j < length numbers → slice_index_or numbers j 0 ≡ number → slice_index_or ranks j 0 < length tile
+HasRanks number numbers ranks tile =
+    (j : ℕ) → j < length numbers → slice_index_or numbers j 0 ≡ number → slice_index_or ranks j 0 < length tile
 
 -- the cells of a tile were written at the places whose tile it is, and there alone
 pub record CopiesTile (number : ℕ) (numbers ranks : List ℕ) (tile before cells : List ℤ) : Type 0 where
   pub places : length cells ≡ length before
-  pub copied : (j : ℕ) → j < length numbers → slice_index_or numbers j 0 ≡ number → slice_index_or cells j (pos 0) ≡ slice_index_or tile (slice_index_or ranks j 0) (pos 0)
-  pub kept : (j : ℕ) → j < length numbers → slice_index_or numbers j 0 ≢ number → slice_index_or cells j (pos 0) ≡ slice_index_or before j (pos 0)
+  pub copied : (j : ℕ) → j < length numbers → slice_index_or numbers j 0 ≡ number
+      → slice_index_or cells j (pos 0) ≡ slice_index_or tile (slice_index_or ranks j 0) (pos 0)
+  pub kept : (j : ℕ) → j < length numbers → slice_index_or numbers j 0 ≢ number
+      → slice_index_or cells j (pos 0) ≡ slice_index_or before j (pos 0)
 
 -- the scratch has the tiles of the places, the ranks in these, and as many cells
 pub record IsLocated (r : Reading) (envs : List (List ℤ)) (s : Scratch) : Type 0 where
@@ -37,7 +40,9 @@ IsListed r envs k s = (k < length s.seen.items) × AreListed r envs s
 -- the scratch has the cells of the first n of the tiles that are listed
 abbrev pub HasGathered : {K : Type 0} → SourceState K → Reading → List (List ℤ) → ℕ → Scratch → Type 0
 HasGathered s r envs n scratch =
-    (j : ℕ) → j < length scratch.numbers.items → IsSeen (take n scratch.seen.items) (slice_index_or scratch.numbers.items j 0) → slice_index_or scratch.cells.items j (pos 0) ≡ cell_read s r (slice_index_or envs j [])
+    (j : ℕ) → j < length scratch.numbers.items
+    → IsSeen (take n scratch.seen.items) (slice_index_or scratch.numbers.items j 0)
+    → slice_index_or scratch.cells.items j (pos 0) ≡ cell_read s r (slice_index_or envs j [])
 
 -- if it has them before a call, it has those of the next tile too after it
 abbrev pub KeepsGathered : {K : Type 0} → SourceState K → Reading → List (List ℤ) → ℕ → Scratch → Scratch → Type 0

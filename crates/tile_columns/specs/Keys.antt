@@ -17,9 +17,11 @@ use Rattle.tile_columns.specs.Zones.{equation_in, HasZones}
 -- A body depends on a key alone: under so many variables it has one outcome wherever the key has one. The key has its
 -- place where the body has, and its evaluation so many times asks for no more tiles than that of the body once.
 pub record IsKeyOf (depth : ℕ) (body key : Tree) (times : ℕ) : Type 0 where
-  pub alone : (s : ℕ → ℕ → List ℤ → ℤ) (regs : List Outcome) (one other : List ℤ) → length one ≡ depth → length other ≡ depth
+  pub alone : (s : ℕ → ℕ → List ℤ → ℤ) (regs : List Outcome) (one other : List ℤ) → length one ≡ depth
+      → length other ≡ depth
       → run s regs key one ≡ run s regs key other → run s regs body one ≡ run s regs body other
-  pub placed : (cs : ℕ → Option Signature) (n : ℕ) (scope : List Interval) → length scope ≡ depth → IsPlaced cs n scope body → IsPlaced cs n scope key
+  pub placed : (cs : ℕ → Option Signature) (n : ℕ) (scope : List Interval) → length scope ≡ depth
+      → IsPlaced cs n scope body → IsPlaced cs n scope key
   pub dearer : (n : ℕ) → bound_times (n * times) key ≤ bound_times n body
 
 -- the key of a fold of zones, by where it was found
@@ -45,7 +47,9 @@ pub record IsFoundKey (depth : ℕ) (body : Tree) (k : Key) : Type 0 where
   pub fold : fold_of k ≡ body
   pub zoned : HasZones depth (condition_view k.fold.now.condition) (body_view k.fold.now.body) k.zones
 
--- at most so many tiles are fetched as the key of a fold of zones asks for at the places of a frame, and the fold at one
+-- at most so many tiles are fetched as the key of a fold of zones asks for at the places of a frame, and the fold at
+-- one
 abbrev pub FetchesByKey : {S : Type 0} → Key → List (List ℤ) → Ghosts S → S → S → Type 0
 FetchesByKey k envs t old new =
-    FetchesAtMost (bound_times (length envs) (key_in k.zones (fold_of k)) + bound_times 1 (fold_of k)) (t.state old) (t.state new)
+    FetchesAtMost (bound_times (length envs) (key_in k.zones (fold_of k)) + bound_times 1 (fold_of k)) (t.state old)
+    (t.state new)

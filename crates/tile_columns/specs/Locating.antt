@@ -25,7 +25,8 @@ abbrev pub tile_on : ℕ → ℕ → ℕ → ℕ → ℕ
 tile_on edge last t above = t * (last / edge + 1) + above / edge
 
 abbrev pub rank_on : ℕ → ℕ → ℕ → ℕ → ℕ
-rank_on edge last r above = r * (last_step last edge (above / edge) - first_step edge (above / edge) + 1) + (above - first_step edge (above / edge))
+rank_on edge last r above = r * (last_step last edge (above / edge) - first_step edge (above / edge) + 1) +
+    (above - first_step edge (above / edge))
 
 -- with the axes one after the other
 abbrev pub tile_from : ℕ → List Axis → ℕ → List ℤ → ℕ
@@ -47,11 +48,13 @@ rank_along a x r = rank_on a.edge a.last r (gap a.lo x)
 
 -- each coordinate lies on the axis
 abbrev pub LieAlong : Along → List ℤ → Type 0
-LieAlong a xs = (k : ℕ) → k < length xs → (a.lo ≤ℤ slice_index_or xs k (pos 0)) × (gap a.lo (slice_index_or xs k (pos 0)) ≤ a.last)
+LieAlong a xs = (k : ℕ) → k < length xs → (a.lo ≤ℤ slice_index_or xs k (pos 0))
+    × (gap a.lo (slice_index_or xs k (pos 0)) ≤ a.last)
 
 -- At each place of `xs` the count was taken on by `next`, by what stands there in `xs`; `d` stands beyond its end.
 abbrev pub CountedOn : {X : Type 0} → List X → X → (X → ℕ → ℕ) → List ℕ → List ℕ → Type 0
-CountedOn xs d next old new = (k : ℕ) → k < length xs → slice_index_or new k 0 ≡ next (slice_index_or xs k d) (slice_index_or old k 0)
+CountedOn xs d next old new = (k : ℕ) → k < length xs
+    → slice_index_or new k 0 ≡ next (slice_index_or xs k d) (slice_index_or old k 0)
 
 -- no count taken on in this way is large
 abbrev pub CountsFew : {X : Type 0} → List X → X → (X → ℕ → ℕ) → List ℕ → Type 0

@@ -35,4 +35,5 @@ IsColumnOf s g body envs column = s.intact → column ≡ map (meaning s g body)
 -- a call that was done fetched no more tiles than a body asks for at the places of a frame, as `fetches` counts them
 abbrev pub Fetches : {S A E : Type 0} → Result A E → Ground → Tree → List (List ℤ) → Ghosts S → S → S → Type 0
 Fetches result g body envs t old new =
-    OnOk result ((n : ℕ) → All (λ (e : List ℤ). n ≤ length e) envs → FetchesAtMost (fetches (chosen (t.state old) g) n envs body) (t.state old) (t.state new))
+    OnOk result ((n : ℕ) → All (λ (e : List ℤ). n ≤ length e) envs
+    → FetchesAtMost (fetches (chosen (t.state old) g) n envs body) (t.state old) (t.state new))

@@ -41,8 +41,10 @@ IsColumnRead s r envs column = s.intact → column ≡ map (λ e. Value (cell_re
 -- the points that are read are those of the box of a tile
 abbrev pub ReadsWhole : Reading → List (List ℤ) → ℕ → Type 0
 ReadsWhole r envs n =
-    (0 < length envs) × (n < length (tile_boxes r.domain.now)) × (map (λ e. numbers_at e r.indexes.now) envs ≡ points (tile_box r.domain.now n))
+    (0 < length envs) × (n < length (tile_boxes r.domain.now))
+    × (map (λ e. numbers_at e r.indexes.now) envs ≡ points (tile_box r.domain.now n))
 
 -- a column has the values of the cells of a tile
 abbrev pub IsTileColumn : {K : Type 0} → SourceState K → Reading → ℕ → List Outcome → Type 0
-IsTileColumn s r n column = s.intact → column ≡ map (λ q. Value (s.cells r.coverage r.field q)) (points (box_in s r.coverage n))
+IsTileColumn s r n column = s.intact
+    → column ≡ map (λ q. Value (s.cells r.coverage r.field q)) (points (box_in s r.coverage n))

@@ -16,8 +16,8 @@ all_spots tiles ranks = map (spot_at tiles ranks) (range_with_len 0 (length tile
 abbrev pub tiles_in : List Spot → List ℕ
 tiles_in spots = map (λ (s : Spot). s.tile) spots
 
--- All places stand among the spots, in the order of their tiles, each with its tile and its rank. The spots have as many
--- different tiles as the places.
+-- All places stand among the spots, in the order of their tiles, each with its tile and its rank. The spots have as
+-- many different tiles as the places.
 pub record AreInOrder (tiles ranks : List ℕ) (spots : List Spot) : Type 0 where
   pub each : All (λ (s : Spot). (s.place < length tiles) × (s ≡ spot_at tiles ranks s.place)) spots
   pub all : (place : ℕ) → place < length tiles → Contains spots (spot_at tiles ranks place)
@@ -39,5 +39,7 @@ cells_at cells ranks = map (λ r. slice_index_or cells r (pos 0)) ranks
 -- stand there, and those that stood elsewhere before do still.
 pub record WritesWanted (spots : List Spot) (picked before cells : List ℤ) : Type 0 where
   pub places : length cells ≡ length before
-  pub written : (want : ℕ → ℤ) → picked ≡ map (λ (s : Spot). want s.place) spots → All (λ (s : Spot). slice_index_or cells s.place (pos 0) ≡ want s.place) spots
-  pub kept : (want : ℕ → ℤ) → picked ≡ map (λ (s : Spot). want s.place) spots → (place : ℕ) → slice_index_or before place (pos 0) ≡ want place → slice_index_or cells place (pos 0) ≡ want place
+  pub written : (want : ℕ → ℤ) → picked ≡ map (λ (s : Spot). want s.place) spots
+      → All (λ (s : Spot). slice_index_or cells s.place (pos 0) ≡ want s.place) spots
+  pub kept : (want : ℕ → ℤ) → picked ≡ map (λ (s : Spot). want s.place) spots → (place : ℕ)
+      → slice_index_or before place (pos 0) ≡ want place → slice_index_or cells place (pos 0) ≡ want place

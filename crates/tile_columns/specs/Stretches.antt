@@ -38,7 +38,9 @@ pub record KeepsSpots (old new : Scratch) : Type 0 where
 -- the scratch has the cells that are read at the first n places in their order
 abbrev pub HasRead : {K : Type 0} → SourceState K → Reading → List (List ℤ) → Scratch → ℕ → Type 0
 HasRead s r envs scratch n =
-    (k : ℕ) (d : Spot) → k < n → k < length scratch.spots.items → slice_index_or scratch.cells.items (slice_index_or scratch.spots.items k d).place (pos 0) ≡ cell_read s r (slice_index_or envs (slice_index_or scratch.spots.items k d).place [])
+    (k : ℕ) (d : Spot) → k < n → k < length scratch.spots.items
+    → slice_index_or scratch.cells.items (slice_index_or scratch.spots.items k d).place (pos 0) ≡ cell_read s r
+    (slice_index_or envs (slice_index_or scratch.spots.items k d).place [])
 
 -- if it has those of the first places before a call, it has those up to another one after it
 abbrev pub KeepsRead : {K : Type 0} → SourceState K → Reading → List (List ℤ) → Scratch → Scratch → ℕ → ℕ → Type 0

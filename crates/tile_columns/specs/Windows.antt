@@ -1,4 +1,5 @@
--- Folds of windows: at each place of a box they condense the cells within reach of it, as far as these lie within bounds.
+-- Folds of windows: at each place of a box they condense the cells within reach of it, as far as these lie within
+-- bounds.
 use Rattle.std.specs.Prelude.{◌≡◌, ℕ, ◌+◌, ◌*◌, ◌<◌, ◌≤◌, ◌≤ℤ◌, ℤ, pos, List, [], ◌∷◌, ◌++◌, map, length, slice_get, slice_index_or, IsSomeAnd, Bool, true, false, ◌||◌}
 use Rattle.std.specs.List.{All, flat_map}
 use Rattle.arr_core.specs.Limits.{max_tile}
@@ -48,7 +49,8 @@ high_edge a m vars = operate2 LessEqual (moved a.level m vars) (Value a.bounds.h
 -- that it lies within the bounds, along the rows and along the columns
 abbrev pub edges : Pattern → ℕ → List ℤ → Outcome
 edges w n vars =
-    operate2 And (operate2 And (operate2 And (low_edge w.rows n vars) (high_edge w.rows n vars)) (low_edge w.columns (n + 1) vars)) (high_edge w.columns (n + 1) vars)
+    operate2 And (operate2 And (operate2 And (low_edge w.rows n vars) (high_edge w.rows n vars))
+    (low_edge w.columns (n + 1) vars)) (high_edge w.columns (n + 1) vars)
 
 -- an edge that is asked for; another one is met
 abbrev pub asked : Bool → Outcome → Outcome
@@ -58,7 +60,9 @@ asked false o = Value (pos 1)
 -- those edges alone that are asked for
 abbrev pub some_edges : Pattern → ℕ → Edges → List ℤ → Outcome
 some_edges w n found vars =
-    operate2 And (operate2 And (operate2 And (asked found.row_low (low_edge w.rows n vars)) (asked found.row_high (high_edge w.rows n vars))) (asked found.column_low (low_edge w.columns (n + 1) vars))) (asked found.column_high (high_edge w.columns (n + 1) vars))
+    operate2 And (operate2 And (operate2 And (asked found.row_low (low_edge w.rows n vars))
+    (asked found.row_high (high_edge w.rows n vars))) (asked found.column_low (low_edge w.columns (n + 1) vars)))
+    (asked found.column_high (high_edge w.columns (n + 1) vars))
 
 -- the edges that are among one or the other
 abbrev pub either_edges : Edges → Edges → Edges
@@ -93,7 +97,8 @@ pub record IsPattern (f : Fold) (n : ℕ) (w : Pattern) : Type 0 where
 pub record GoesOver (w : Pattern) (envs : List (List ℤ)) (p : Extents) : Type 0 where
   pub rows : p.rows.lo ≤ℤ p.rows.hi
   pub columns : p.columns.lo ≤ℤ p.columns.hi
-  pub over : map (λ e. numbers_at e (Var w.rows.level ∷ Var w.columns.level ∷ [])) envs ≡ cross (between p.rows.lo p.rows.hi) (between p.columns.lo p.columns.hi)
+  pub over : map (λ e. numbers_at e (Var w.rows.level ∷ Var w.columns.level ∷ [])) envs ≡ cross
+      (between p.rows.lo p.rows.hi) (between p.columns.lo p.columns.hi)
 
 -- how many cells the halo of windows has at most that are kept in one list
 abbrev pub max_halo : ℕ
@@ -151,7 +156,8 @@ cells_within cell w y x = flat_map (λ r. map (λ c. cell (r ∷ c ∷ [])) (rea
 -- what becomes of them, place by place
 abbrev pub windows_of : (List ℤ → ℤ) → Window → List Outcome
 windows_of cell w =
-    flat_map (λ y. map (λ x. combined w.op (cells_within cell w y x)) (between w.columns.places.lo w.columns.places.hi)) (between w.rows.places.lo w.rows.places.hi)
+    flat_map (λ y. map (λ x. combined w.op (cells_within cell w y x)) (between w.columns.places.lo w.columns.places.hi))
+    (between w.rows.places.lo w.rows.places.hi)
 
 -- the cells of the field that is read
 abbrev pub field_cells : {K : Type 0} → SourceState K → Window → List ℤ → ℤ
@@ -167,7 +173,8 @@ AddsRead s r envs old new = s.intact → new ≡ old ++ map (cell_read s r) envs
 
 -- the cells of so many rows of the halo, all of its columns
 abbrev pub halo_rows : {K : Type 0} → SourceState K → Window → Interval → List ℤ
-halo_rows s w rows = map (field_cells s w) (cross (between rows.lo rows.hi) (between w.columns.halo.lo w.columns.halo.hi))
+halo_rows s w rows = map (field_cells s w)
+    (cross (between rows.lo rows.hi) (between w.columns.halo.lo w.columns.halo.hi))
 
 -- how many cells these are
 abbrev pub row_cells : Window → Interval → ℕ

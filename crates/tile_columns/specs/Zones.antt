@@ -108,7 +108,8 @@ pub record IsZoned (depth : ℕ) (role : Role) (condition body own key : Tree) (
 -- what is found of a condition and a body
 abbrev pub HasZones : ℕ → Tree → Tree → Zones → Type 0
 HasZones depth condition body z =
-    IsZoned depth z.role condition body (operand (not z.key_first) (equation_in z.role condition body)) (operand z.key_first (equation_in z.role condition body)) z.key_first
+    IsZoned depth z.role condition body (operand (not z.key_first) (equation_in z.role condition body))
+    (operand z.key_first (equation_in z.role condition body)) z.key_first
 
 -- a fold's condition and body are made so, under the variables of the places of a frame; and there is a place
 pub record IsZonal (role : Role) (condition body own key : Tree) (first : Bool) (envs : List (List ℤ)) : Type 0 where
@@ -118,7 +119,8 @@ pub record IsZonal (role : Role) (condition body own key : Tree) (first : Bool) 
   pub zoned : IsZoned depth role condition body own key first
 
 abbrev pub AreZonesOf : Fold → List (List ℤ) → Zones → Type 0
-AreZonesOf f envs z = IsZonal z.role (condition_view f.condition) (body_view f.body) (own_of f z) (key_of f z) z.key_first envs
+AreZonesOf f envs z = IsZonal z.role (condition_view f.condition) (body_view f.body) (own_of f z) (key_of f z)
+    z.key_first envs
 
 -- each point of a part has an outcome that is compared with a key, one that is condensed, and its place in the box
 pub record IsWhole (s : Seen) : Type 0 where
@@ -151,18 +153,21 @@ abbrev pub IsSharable : Aggregate → Seen → Type 0
 IsSharable op s = IsSharableAs s.role op s
 
 -- accumulators, one for each of these numbers, each told of the cells of a column whose own key is its number
-pub record AreKeyed (op : Aggregate) (numbers : List ℤ) (ranks : List ℕ) (own column : List Outcome) (folds : List Accumulator) : Type 0 where
+pub record AreKeyed (op : Aggregate) (numbers : List ℤ) (ranks : List ℕ) (own column : List Outcome)
+    (folds : List Accumulator) : Type 0 where
   pub many : length folds ≡ length numbers
   pub kinds : AreOf op folds
   pub room : HaveAtMost (length column) folds
   pub told : EachStands folds (λ j. demanded_at ranks (having own (number_at numbers j)) column)
 
 -- they are so but for further points whose value is 0, so that each stands for as many points as the part has
-pub record AreCounted (op : Aggregate) (numbers : List ℤ) (s : Seen) (hits : List Outcome) (folds : List Accumulator) : Type 0 where
+pub record AreCounted (op : Aggregate) (numbers : List ℤ) (s : Seen) (hits : List Outcome)
+    (folds : List Accumulator) : Type 0 where
   pub many : length folds ≡ length numbers
   pub kinds : AreOf op folds
   pub room : HaveAtMost (length s.column.now) folds
-  pub told : (j : ℕ) (d : Accumulator) (more : List Told) → j < length folds → AddsZeros (demanded_at s.ranks.now (having s.own.now (number_at numbers j)) hits) more
+  pub told : (j : ℕ) (d : Accumulator) (more : List Told) → j < length folds
+      → AddsZeros (demanded_at s.ranks.now (having s.own.now (number_at numbers j)) hits) more
       → length more ≡ length s.column.now → Stands (slice_index_or folds j d) more
 
 -- accumulators, one for each of these numbers, each told what the points of a part add for it
@@ -175,7 +180,8 @@ pub record AreShared (op : Aggregate) (numbers : List ℤ) (s : Seen) (shared : 
 -- the accumulator at a place takes in these points, at most n of them, and the others stay as they are
 pub record TakesInAt (place : ℕ) (more : List Told) (n : ℕ) (before after : List Accumulator) : Type 0 where
   pub told : (d : Accumulator) → TakesIn (slice_index_or before place d) (slice_index_or after place d) more
-  pub count : (d : Accumulator) → (slice_index_or after place d).running.count ≤ (slice_index_or before place d).running.count + n
+  pub count : (d : Accumulator) → (slice_index_or after place d).running.count ≤
+      (slice_index_or before place d).running.count + n
   pub kinds : (op : Aggregate) → AreOf op before → AreOf op after
   pub others : (k : ℕ) (d : Accumulator) → k ≢ place → slice_index_or after k d ≡ slice_index_or before k d
 

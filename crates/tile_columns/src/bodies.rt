@@ -182,8 +182,8 @@ fn bind<S: Tiles>(
     Ok(())
 }
 
-/// Makes `out` the outcomes of a body under one more variable, the coordinate of the position at each place, or the lower
-/// bound of the interval where it has none there.
+/// Makes `out` the outcomes of a body under one more variable, the coordinate of the position at each place, or the
+/// lower bound of the interval where it has none there.
 #[cycle(evaluate)]
 fn at_coordinates<S: Tiles>(
     source: &mut S,
@@ -243,8 +243,8 @@ fn condense<S: Tiles>(
     Ok(())
 }
 
-/// Tells accumulators, one for each place of a frame, of all points of a fold's box: in one pass where it is of zones, a
-/// tile box at a time where that takes fewer column operations, else a point at a time.
+/// Tells accumulators, one for each place of a frame, of all points of a fold's box: in one pass where it is of zones,
+/// a tile box at a time where that takes fewer column operations, else a point at a time.
 #[cycle(evaluate)]
 fn tell_all<S: Tiles>(
     source: &mut S,
@@ -285,8 +285,8 @@ pub(crate) struct Zoning<'a> {
     pub zones: Zones,
 }
 
-/// Tells accumulators, one for each place of a frame, of all points of the box of a fold of zones, in one pass over it. The
-/// keys of the places are evaluated once.
+/// Tells accumulators, one for each place of a frame, of all points of the box of a fold of zones, in one pass over it.
+/// The keys of the places are evaluated once.
 #[cycle(evaluate)]
 pub(crate) fn tell_zones<S: Tiles>(
     source: &mut S,
@@ -326,8 +326,8 @@ pub(crate) struct Zoned<'a> {
     pub keys: &'a Keys,
 }
 
-/// Tells accumulators, one for each place of a frame with its key, of all points of the box of a fold of zones, a tile box
-/// at a time.
+/// Tells accumulators, one for each place of a frame with its key, of all points of the box of a fold of zones, a tile
+/// box at a time.
 #[cycle(evaluate)]
 fn tell_zone_tiles<S: Tiles>(
     source: &mut S,
@@ -354,8 +354,8 @@ fn tell_zone_tiles<S: Tiles>(
     Ok(())
 }
 
-/// Tells accumulators, one for each place of a frame with its key, of the points of a part of the box of a fold of zones.
-/// Both bodies are evaluated once, under the variables of the first place, of which they use none.
+/// Tells accumulators, one for each place of a frame with its key, of the points of a part of the box of a fold of
+/// zones. Both bodies are evaluated once, under the variables of the first place, of which they use none.
 #[cycle(evaluate)]
 fn tell_zone_part<S: Tiles>(
     source: &mut S,
@@ -419,8 +419,8 @@ fn other_column<S: Tiles>(
     }
 }
 
-/// Tells accumulators, one for each place of a frame, of all points of a fold's box, in row-major order: for each point a
-/// column of its body.
+/// Tells accumulators, one for each place of a frame, of all points of a fold's box, in row-major order: for each point
+/// a column of its body.
 #[cycle(evaluate)]
 fn tell_points<S: Tiles>(
     source: &mut S,

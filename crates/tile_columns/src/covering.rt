@@ -72,7 +72,8 @@ fn in_front(axis: &Axis, edge: u64, part: AxisPart, behind: Covered) -> Covered
     }
 }
 
-/// The tile of some axes over whose box indexes turn, if there is one; a tile has no more points than a column has places.
+/// The tile of some axes over whose box indexes turn, if there is one; a tile has no more points than a column has
+/// places.
 pub(crate) fn tile_covered(
     variables: &[Variable],
     indexes: &[Index],

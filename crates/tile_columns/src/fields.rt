@@ -1,6 +1,6 @@
 //! Fields behind binds, at all places of a frame.
 
-ghost use Rattle.std.specs.Prelude.{◌≡◌, List, [], ◌∷◌, ◌++◌, length, map, replicate, OnOk, IfOk};
+ghost use Rattle.std.specs.Prelude.{◌≡◌, [], ◌∷◌, ◌++◌, length, map, replicate, OnOk, IfOk};
 ghost use Rattle.tile_columns.specs.Calling.{Reads};
 ghost use Rattle.tile_columns.specs.Meaning.{IsGroundOf};
 ghost use Rattle.tile_columns.specs.Fields.{HavePlaces, HavePlaceOver, AreColumnsOf, FetchAll, settled_by, blank_by};

@@ -1,6 +1,6 @@
 //! The accumulators of a fold, one for each place of a column.
 
-ghost use Rattle.std.specs.Prelude.{◌≡◌, ◌*◌, ◌++◌, ◌<◌, ◌≤◌, List, [], length, map, slice_index_or, IfOk, OnOk, nat_lt};
+ghost use Rattle.std.specs.Prelude.{◌≡◌, ◌*◌, ◌++◌, ◌<◌, ◌≤◌, [], length, map, slice_index_or, IfOk, OnOk, nat_lt};
 ghost use Rattle.arr_core.specs.Limits.{max_tile};
 ghost use Rattle.arr_core.specs.Domains.{points, count, IsInside};
 ghost use Rattle.arr_core.specs.Tiles.{tile_boxes};
@@ -103,8 +103,8 @@ pub(crate) fn merge_at(folds: &mut [Accumulator], place: usize, found: &Accumula
     folds[place].take_over(found);
 }
 
-/// Whether a fold takes fewer column operations a tile box at a time, one for each tile box and place of the frame, than
-/// a point at a time, one for each point of its box. Over all places and points both have as many cells.
+/// Whether a fold takes fewer column operations a tile box at a time, one for each tile box and place of the frame,
+/// than a point at a time, one for each point of its box. Over all places and points both have as many cells.
 pub(crate) fn goes_by_tiles(places: usize, area: &Domain) -> bool
     requires { places ≤ max_tile }
     ensures { result ≡ nat_lt (places * length (tile_boxes area.now)) (count area.now) }

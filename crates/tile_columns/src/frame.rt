@@ -1,9 +1,9 @@
 //! Frames: the numbers of a body's variables at each place of a column.
 
-ghost use Rattle.std.specs.Prelude.{◌≡◌, ℕ, ◌+◌, ◌*◌, ◌<◌, ◌≤◌, ◌^◌, ◌≤ℤ◌, ◌+ℤ◌, ℤ, pos, List, [], ◌++◌, length, take, map, slice_index_or, replicate, IsTrue, IfSome, OnOk, IfOk};
+ghost use Rattle.std.specs.Prelude.{◌≡◌, ℕ, ◌+◌, ◌*◌, ◌<◌, ◌≤◌, ◌≤ℤ◌, ℤ, pos, List, [], ◌++◌, length, take, map, slice_index_or, replicate, IsTrue, IfSome, OnOk, IfOk};
 ghost use Rattle.std.specs.List.{All};
 ghost use Rattle.arr_core.specs.Limits.{max_tile};
-ghost use Rattle.arr_core.specs.Domains.{gap, size_of, points, count, AreOrdered};
+ghost use Rattle.arr_core.specs.Domains.{points, count, AreOrdered};
 ghost use Rattle.arr_core.specs.Tiles.{tile_boxes, tile_box};
 ghost use Rattle.plan_ir.specs.Run.{number_at, numbers_at};
 ghost use Rattle.tile_columns.specs.Frames.{turn, number_of, environment, HasPlaces, under, extended, turns, TellsAt, Adds, number_there, by_place, StayWhole};

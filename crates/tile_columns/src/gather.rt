@@ -26,7 +26,8 @@ use wcps_mean::CellError;
 /// How many different tiles are copied one after the other, each to all places that read it.
 const MOST_TILES: usize = 8;
 
-/// What is read: a coverage of the plan and a field, by their places, the coverage's domain, and an index for each axis.
+/// What is read: a coverage of the plan and a field, by their places, the coverage's domain, and an index for each
+/// axis.
 #[derive(Clone, Copy)]
 pub struct Reading<'a> {
     pub coverage: usize,
@@ -180,8 +181,8 @@ fn spread_unless(keeps_runs: bool, column: &mut Column)
     column.spread();
 }
 
-/// Makes `out` the cells of a tile of 4,096 points by an exchange of lists: as they lie, as runs or one by one, or each at its
-/// place.
+/// Makes `out` the cells of a tile of 4,096 points by an exchange of lists: as they lie, as runs or one by one, or each
+/// at its place.
 fn read_runs<S: Tiles>(
     source: &mut S,
     reading: &Reading<'_>,
@@ -228,9 +229,9 @@ fn read_tile<S: Tiles>(
     Ok(())
 }
 
-/// Makes `out` the cells that are read at each place. Each tile that holds one of them is fetched once, whole or in part,
-/// and one tile is held at a time; where the indexes go over the box of a tile, its cells are the column, as runs where
-/// the tile lies so and the scratch keeps them. What the source reports passes through.
+/// Makes `out` the cells that are read at each place. Each tile that holds one of them is fetched once, whole or in
+/// part, and one tile is held at a time; where the indexes go over the box of a tile, its cells are the column, as runs
+/// where the tile lies so and the scratch keeps them. What the source reports passes through.
 pub fn read<S: Tiles>(
     source: &mut S,
     reading: &Reading<'_>,

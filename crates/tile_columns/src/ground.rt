@@ -14,8 +14,8 @@ use plan_ir::Index;
 use tile_kernel::Column;
 use wcps_mean::{CellError, Outcome, place_at};
 
-/// What bodies of one combination stand over: the coverages of the plan, which of them the combination chooses, by their
-/// places in the plan, and the outcomes of its passes.
+/// What bodies of one combination stand over: the coverages of the plan, which of them the combination chooses, by
+/// their places in the plan, and the outcomes of its passes.
 #[derive(Clone, Copy)]
 pub struct Ground<'a> {
     pub signatures: &'a [Signature],
@@ -23,7 +23,8 @@ pub struct Ground<'a> {
     pub registers: &'a [Outcome],
 }
 
-/// A read of a body: a coverage by its place among those that are chosen, a field by its place, and an index for each axis.
+/// A read of a body: a coverage by its place among those that are chosen, a field by its place, and an index for each
+/// axis.
 #[derive(Clone, Copy)]
 pub(crate) struct BodyRead<'a> {
     pub coverage: usize,

@@ -1,6 +1,6 @@
 //! The cells around the places of windows, and what becomes of those within reach of each place.
 
-ghost use Rattle.std.specs.Prelude.{◌≡◌, ◌+◌, ◌*◌, ◌++◌, length, map, OnOk, IfOk};
+ghost use Rattle.std.specs.Prelude.{◌≡◌, ◌+◌, ◌++◌, length, map, OnOk, IfOk};
 ghost use Rattle.tile_columns.specs.Sources.{FetchesAtMost};
 ghost use Rattle.tile_columns.specs.Calling.{Reads, FetchesOnce};
 ghost use Rattle.tile_columns.specs.Meaning.{IsGroundOf};

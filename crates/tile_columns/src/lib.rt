@@ -1,5 +1,5 @@
-//! Columns of what a plan's bodies read: the numbers of variables at the places of a tile box, and the cells of coverages
-//! there, which come a tile at a time.
+//! Columns of what a plan's bodies read: the numbers of variables at the places of a tile box, and the cells of
+//! coverages there, which come a tile at a time.
 #![tactic(auto)]
 
 mod binds;

@@ -1,6 +1,6 @@
 //! Numbers of variables, points of indexes, and items of lists, at each place of a column.
 
-ghost use Rattle.std.specs.Prelude.{◌≡◌, ◌<◌, ◌≤◌, pos, List, [], length, map, slice_index_or, OnOk};
+ghost use Rattle.std.specs.Prelude.{◌≡◌, ◌<◌, pos, List, [], length, map, slice_index_or, OnOk};
 ghost use Rattle.arr_core.specs.Domains.{count};
 ghost use Rattle.wcps_mean.specs.declared.cell.Outcome.TheVariants.{Value};
 ghost use Rattle.plan_ir.specs.Run.{number_at, numbers_at};

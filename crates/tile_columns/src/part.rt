@@ -1,8 +1,8 @@
 //! Parts of a box, and the places of their points.
 
-ghost use Rattle.std.specs.Prelude.{◌≡◌, ◌+◌, ◌<◌, ◌≤◌, ◌^◌, ◌≤ℤ◌, List, ◌++◌, length, map, IfOk, OnOk};
+ghost use Rattle.std.specs.Prelude.{◌≡◌, ◌+◌, ◌<◌, ◌≤◌, ◌^◌, ◌≤ℤ◌, ◌++◌, length, map, IfOk, OnOk};
 ghost use Rattle.std.specs.List.{range_with_len};
-ghost use Rattle.arr_core.specs.Domains.{gap, size_of, points, count, AreOrdered, IsBoxOf, rank_of};
+ghost use Rattle.arr_core.specs.Domains.{gap, points, count, AreOrdered, IsBoxOf, rank_of};
 ghost use Rattle.arr_core.specs.Limits.{max_points};
 ghost use Rattle.arr_core.specs.Tiles.{tile_boxes, tile_box};
 ghost use Rattle.tile_columns.specs.TileOrder.{IsPart};

@@ -1,5 +1,5 @@
-//! The pattern of a fold of windows: its body is a cell so far away from a place, and its condition says where that cell
-//! lies within bounds.
+//! The pattern of a fold of windows: its body is a cell so far away from a place, and its condition says where that
+//! cell lies within bounds.
 
 ghost use Rattle.std.specs.Prelude.{◌≡◌, ◌+◌, ◌*◌, ◌≤◌, [], ◌∷◌, IfSome, IsTrue};
 ghost use Rattle.wcps_text.specs.declared.operator.BinaryOperator.TheVariants.{Add};

@@ -1,6 +1,6 @@
 //! How far windows reach along the axes of a coverage.
 
-ghost use Rattle.std.specs.Prelude.{◌≡◌, ◌+◌, ◌*◌, ◌^◌, ◌<◌, ◌≤◌, ◌≤ℤ◌, ◌+ℤ◌, length, map, IfSome, IfOk, IsTrue, pos, negsuc};
+ghost use Rattle.std.specs.Prelude.{◌≡◌, ◌+◌, ◌^◌, ◌<◌, ◌≤◌, ◌≤ℤ◌, ◌+ℤ◌, length, IfSome, IfOk, pos, negsuc};
 ghost use Rattle.std.specs.Int.{int_max, int_min};
 ghost use Rattle.std.specs.List.{All};
 ghost use Rattle.tile_columns.specs.Reaching.{extent, reached_by, along, AreSpansOf, EndsBy, IsReach, HasExtents, Encloses};

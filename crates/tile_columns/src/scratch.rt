@@ -51,8 +51,8 @@ impl Scratch {
         }
     }
 
-    /// Whether a column may keep the cells of a whole tile as runs, where they lie so: for folds and operations it is to,
-    /// and not for what reads it place by place.
+    /// Whether a column may keep the cells of a whole tile as runs, where they lie so: for folds and operations it is
+    /// to, and not for what reads it place by place.
     pub fn keep_runs(&mut self, keeps: bool)
         ensures { self.new.keeps_runs ≡ keeps }
     {

@@ -22,8 +22,8 @@ pub trait Tiles {
     ghost spelled: { Self.Kept → Type 0 };
 
     /// Makes `buffer` the cells of a tile, row-major. Refused with `DiskFault` only where the count of failures rose or
-    /// stands at its last value, and with `Damaged` only where a tile is not in its format. Caches may change, the cells
-    /// do not.
+    /// stands at its last value, and with `Damaged` only where a tile is not in its format. Caches may change, the
+    /// cells do not.
     fn tile(
         &mut self,
         coverage: usize,
@@ -38,8 +38,8 @@ pub trait Tiles {
         ensures reads { OnlyReads (state self.old) (state self.new) }
         ensures reports { Tells spelled result (state self.old) (state self.new) };
 
-    /// Makes `runs` the cells of a tile of 4,096 points, row-major: as runs where it lies so, else one by one. Refused as
-    /// `tile` is.
+    /// Makes `runs` the cells of a tile of 4,096 points, row-major: as runs where it lies so, else one by one. Refused
+    /// as `tile` is.
     fn runs(
         &mut self,
         coverage: usize,

@@ -1,6 +1,6 @@
 //! The places of a column in the order of the tiles that they read.
 
-ghost use Rattle.std.specs.Prelude.{◌≡◌, ◌<◌, ◌≤◌, length, map, OnOk};
+ghost use Rattle.std.specs.Prelude.{◌≡◌, ◌<◌, length, map, OnOk};
 ghost use Rattle.std.specs.List.{All};
 ghost use Rattle.std.specs.List.Sorted.{IsPermutation, IsNonDecreasingBy};
 ghost use Rattle.tile_columns.specs.Spots.{all_spots, AreInOrder, IsStretch, cells_at, WritesWanted};

@@ -48,8 +48,8 @@ fn fetch_cells<S: Tiles>(
     Ok(())
 }
 
-/// Reads the cells at the places of one tile, which begin here among those in the order of their tiles, and answers where
-/// they end.
+/// Reads the cells at the places of one tile, which begin here among those in the order of their tiles, and answers
+/// where they end.
 fn fetch_stretch<S: Tiles>(
     source: &mut S,
     reading: &Reading<'_>,

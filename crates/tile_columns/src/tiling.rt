@@ -1,9 +1,8 @@
 //! The variables of a tile's box, one for each axis.
 
-ghost use Rattle.std.specs.Prelude.{◌≡◌, ◌*◌, ◌<◌, ◌≤◌, ◌≤ℤ◌, ◌+ℤ◌, pos, IfOk};
-ghost use Rattle.arr_core.specs.Domains.{gap, count, AreOrdered};
+ghost use Rattle.std.specs.Prelude.{◌*◌, ◌<◌, ◌≤◌, IfOk};
+ghost use Rattle.arr_core.specs.Domains.{count, AreOrdered};
 ghost use Rattle.arr_core.specs.Limits.{max_points, max_tile};
-ghost use Rattle.arr_core.specs.Tiles.{part_of};
 ghost use Rattle.tile_columns.specs.Tiling.{AddsTile};
 
 use crate::frame::Variable;
@@ -18,8 +17,8 @@ pub(crate) struct Behind {
     pub points: u64,
 }
 
-/// Puts a variable at the end for each axis, which turns over the box of a tile, the last one fastest. The number is that
-/// of the tile among those of these axes and of any in front of them.
+/// Puts a variable at the end for each axis, which turns over the box of a tile, the last one fastest. The number is
+/// that of the tile among those of these axes and of any in front of them.
 pub(crate) fn push_tile(
     variables: &mut Vec<Variable>,
     axes: &[Axis],

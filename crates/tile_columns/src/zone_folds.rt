@@ -118,8 +118,8 @@ fn keyed_folds(
     condense_keyed(alloc, op, slots, own, column, ranks)
 }
 
-/// The accumulators of different numbers, each told of the points of a part that have its number, and of those that have
-/// another one where these add 0.
+/// The accumulators of different numbers, each told of the points of a part that have its number, and of those that
+/// have another one where these add 0.
 fn blank_folds(
     alloc: Global,
     op: Aggregate,

@@ -175,8 +175,8 @@ fn are_sides(own: &Body, key: &Body, depth: usize) -> bool
     is_below(depth, key)
 }
 
-/// The body on which a fold of zones depends alone, how often its evaluation fetches no more than that of the fold once,
-/// and where it was found.
+/// The body on which a fold of zones depends alone, how often its evaluation fetches no more than that of the fold
+/// once, and where it was found.
 #[derive(Clone, Copy)]
 pub struct Key<'a> {
     pub body: &'a Body,

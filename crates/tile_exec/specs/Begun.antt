@@ -36,7 +36,8 @@ Adds plan old new more = (trees : List TaskTree) → Lists plan old trees → Li
 -- a task of whatever plan comes behind those that are listed, with so many boxes
 abbrev pub AddsTask : Task → ℕ → Listing → Listing → Type 0
 AddsTask t boxes old new =
-    (plan : Plan) (tree : TaskTree) → IsTask plan t tree → IsFit tree.part → boxes ≡ length (tile_boxes (area_of tree.part)) → Adds plan old new (tree ∷ [])
+    (plan : Plan) (tree : TaskTree) → IsTask plan t tree → IsFit tree.part
+    → boxes ≡ length (tile_boxes (area_of tree.part)) → Adds plan old new (tree ∷ [])
 
 -- the combination at a place, and its steps
 pub record IsChosen (plan : Plan) (n : ℕ) (s : Steps) (c : Choice) : Type 0 where
@@ -45,6 +46,8 @@ pub record IsChosen (plan : Plan) (n : ℕ) (s : Steps) (c : Choice) : Type 0 wh
   pub view : choice_view combination ≡ c
   pub steps : slice_get plan.steps.items combination.steps ≡ Some s
 
--- tasks of the combination at a place come behind those that are listed, whatever plan has it; its registers are from `first` on
+-- tasks of the combination at a place come behind those that are listed, whatever plan has it; its registers are from
+-- `first` on
 abbrev pub AddsOf : (List ℕ → ℕ → Option StepsTree → List TaskTree) → ℕ → ℕ → Steps → Listing → Listing → Type 0
-AddsOf tasks n first s old new = (plan : Plan) (c : Choice) → IsChosen plan n s c → Adds plan old new (tasks c.coverages first (Some (steps_view s)))
+AddsOf tasks n first s old new =
+    (plan : Plan) (c : Choice) → IsChosen plan n s c → Adds plan old new (tasks c.coverages first (Some (steps_view s)))

@@ -48,11 +48,14 @@ AreItemColumns s g i box columns = AreColumnsOf s g i.binds.items i.fields.items
 
 -- no more tiles are fetched than the bound of a body over a box
 abbrev pub FetchesBody : {S A : Type 0} → Result A CellError → Ground → List Axis → Body → Ghosts S → S → S → Type 0
-FetchesBody result g box body t old new = OnOk result (FetchesAtMost (bound_of (chosen (t.state old) g) box (body_view body)) (t.state old) (t.state new))
+FetchesBody result g box body t old new =
+    OnOk result (FetchesAtMost (bound_of (chosen (t.state old) g) box (body_view body)) (t.state old) (t.state new))
 
 -- no more tiles are fetched than the bounds of a part's bodies over a box, or over one of its tiles
 abbrev pub FetchesOver : {S A : Type 0} → Result A CellError → Ground → List Axis → Ghosts S → S → S → PartTree → Type 0
-FetchesOver result g box t old new p = OnOk result (FetchesAtMost (sum_by (bound_of (chosen (t.state old) g) box) (bodies_of p)) (t.state old) (t.state new))
+FetchesOver result g box t old new p =
+    OnOk result (FetchesAtMost (sum_by (bound_of (chosen (t.state old) g) box) (bodies_of p)) (t.state old)
+    (t.state new))
 
 abbrev pub FetchesTile : {S A : Type 0} → Result A CellError → Ground → ℕ → Ghosts S → S → S → PartTree → Type 0
 FetchesTile result g tile t old new p = FetchesOver result g (tile_box (area_of p) tile) t old new p

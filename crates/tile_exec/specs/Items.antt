@@ -20,7 +20,8 @@ row s regs i q = map (λ (f : FieldBody). run s regs (behind i.binds f.body) q) 
 
 -- the cells of all fields at a point; at a fault they mean nothing
 abbrev pub row_cells : CellsOf → List Outcome → ItemTree → List ℤ → List Cell
-row_cells s regs i q = map (λ (f : FieldBody). cell_of f.boolean (value_of (run s regs (behind i.binds f.body) q))) i.fields
+row_cells s regs i q = map (λ (f : FieldBody). cell_of f.boolean (value_of (run s regs (behind i.binds f.body) q)))
+    i.fields
 
 -- the cells of all points in row-major order, the fields of a point in order
 abbrev pub all_cells : CellsOf → List Outcome → ItemTree → List Cell
@@ -49,7 +50,8 @@ places_written placed = map (λ (w : ℕ × Cell). w.0) placed
 -- cells with their places are written: what they shall be is there, and stays where it was
 abbrev pub AreWrittenTo : List Cell → List Cell → List (ℕ × Cell) → Type 0
 AreWrittenTo old new placed =
-    (all : List Cell) (places : List ℕ) → ArePlaced all placed → AreWritten all old places → AreWritten all new (places ++ places_written placed)
+    (all : List Cell) (places : List ℕ) → ArePlaced all placed → AreWritten all old places
+    → AreWritten all new (places ++ places_written placed)
 
 -- how many cells an item has
 abbrev pub cell_count : ItemTree → ℕ
@@ -60,6 +62,7 @@ abbrev pub IsFirstAfter : FirstFault → FirstFault → List Told → Type 0
 IsFirstAfter old new more = (told : List Told) → IsFirstOf old told → IsFirstOf new (told ++ more)
 
 -- the cells and the first fault of the first t tiles of an item's domain
-pub record Fills (s : CellsOf) (regs : List Outcome) (i : ItemTree) (t : ℕ) (cells : List Cell) (least : FirstFault) : Type 0 where
+pub record Fills (s : CellsOf) (regs : List Outcome) (i : ItemTree) (t : ℕ) (cells : List Cell)
+    (least : FirstFault) : Type 0 where
   pub written : AreWritten (all_cells s regs i) cells (flat_map (places_of i) (points_to i.domain t))
   pub first : IsFirstOf least (flat_map (told_to_item s regs i) (points_to i.domain t))

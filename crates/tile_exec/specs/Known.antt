@@ -29,7 +29,8 @@ use Rattle.wcps_mean.specs.Reading.{CellsOf}
 
 -- where the key has the number, the body has the outcome beside it
 abbrev pub IsKnownAt : CellsOf → List Outcome → ℕ → Tree → Tree → KnownOutcome → Type 0
-IsKnownAt s regs depth key body k = (q : List ℤ) → length q ≡ depth → run s regs key q ≡ Value k.number → run s regs body q ≡ k.outcome
+IsKnownAt s regs depth key body k =
+    (q : List ℤ) → length q ≡ depth → run s regs key q ≡ Value k.number → run s regs body q ≡ k.outcome
 
 -- what is known of a body under so many variables, by the key that is found where it was
 abbrev pub IsKnownOf : CellsOf → List Outcome → ℕ → Tree → Known → Type 0
@@ -45,7 +46,8 @@ abbrev pub Knows : {K : Type 0} → SourceState K → Ground → Item → Option
 Knows s g i known = s.intact → IsKnown (cells_of s.cells g.coverages.now) g.registers.now (item_view i) known
 
 abbrev pub KnowsBody : {K : Type 0} → SourceState K → Ground → ℕ → Tree → Option Known → Type 0
-KnowsBody s g depth body known = s.intact → IfSome known (IsKnownOf (cells_of s.cells g.coverages.now) g.registers.now depth body)
+KnowsBody s g depth body known =
+    s.intact → IfSome known (IsKnownOf (cells_of s.cells g.coverages.now) g.registers.now depth body)
 
 -- and of a fold of zones with a key, over a box
 abbrev pub KnowsFold : {K : Type 0} → SourceState K → Ground → List Axis → Key → Option Known → Type 0
@@ -68,7 +70,8 @@ abbrev pub point_of : Sample → List ℤ
 point_of x = x.point.items
 
 -- a number of a key, at a point of a box
-pub record IsSampleOf {K : Type 0} (s : SourceState K) (g : Ground) (area : List Axis) (key : Tree) (x : Sample) : Type 0 where
+pub record IsSampleOf {K : Type 0} (s : SourceState K) (g : Ground) (area : List Axis) (key : Tree) (x : Sample) : Type
+    0 where
   pub inside : IsInside area (point_of x)
   pub number : s.intact → meaning s g key (point_of x) ≡ Value x.number
 
@@ -142,7 +145,8 @@ abbrev pub FetchesBy : {S : Type 0} → Key → ℕ → ℕ → Ghosts S → S �
 FetchesBy k keys folds t old new =
     FetchesAtMost (bound_times keys (body_view k.body.now) + bound_times folds (fold_of k)) (t.state old) (t.state new)
 
--- how often a key is evaluated besides at the points of an item: at samples of a tile, and twice at the points of a tile
+-- how often a key is evaluated besides at the points of an item: at samples of a tile, and twice at the points of a
+-- tile
 abbrev pub more_keys : ℕ
 more_keys = 3 * max_tile
 
@@ -161,8 +165,10 @@ pub record IsKeyOfItem (i : Item) (part : List Axis) (k : Key) : Type 0 where
 
 -- a column has what a fold of zones gives at the points of a part, if what is known is so
 abbrev pub IsColumnBy : {K : Type 0} → SourceState K → Ground → List Axis → Key → Option Known → List Outcome → Type 0
-IsColumnBy s g part k known column = KnowsBody s g (length part) (fold_of k) known → IsColumnOf s g (fold_of k) (points part) column
+IsColumnBy s g part k known column =
+    KnowsBody s g (length part) (fold_of k) known → IsColumnOf s g (fold_of k) (points part) column
 
 -- if there is a column, it is so
-abbrev pub IfColumnBy : {K : Type 0} → SourceState K → Ground → List Axis → Key → Option Known → Option (List Outcome) → Type 0
+abbrev pub IfColumnBy : {K : Type 0} → SourceState K → Ground → List Axis → Key → Option Known → Option (List Outcome)
+    → Type 0
 IfColumnBy s g part k known column = IfSome column (IsColumnBy s g part k known)

@@ -38,11 +38,13 @@ first_place ranks width k = slice_index_or ranks k 0 * width
 
 -- the cells of the first n points
 abbrev pub cells_told : List ℕ → List Bool → List (List Outcome) → ℕ → List (ℕ × Cell)
-cells_told ranks booleans columns n = flat_map (λ k. cells_from (first_place ranks (length booleans) k) booleans (row_at columns k)) (range_with_len 0 n)
+cells_told ranks booleans columns n =
+    flat_map (λ k. cells_from (first_place ranks (length booleans) k) booleans (row_at columns k)) (range_with_len 0 n)
 
 -- the outcomes of the first n points
 abbrev pub rows_told : List ℕ → ℕ → List (List Outcome) → ℕ → List Told
-rows_told ranks width columns n = flat_map (λ k. enumerate_from (first_place ranks width k) (row_at columns k)) (range_with_len 0 n)
+rows_told ranks width columns n =
+    flat_map (λ k. enumerate_from (first_place ranks width k) (row_at columns k)) (range_with_len 0 n)
 
 -- the cells of all points, and their outcomes
 abbrev pub all_cells_told : List ℕ → List Bool → List (List Outcome) → List (ℕ × Cell)

@@ -59,7 +59,8 @@ AtItem s regs i e (Failed f) = Unit {0}
 
 -- what is kept of the task at hand, once a tile of it is done
 abbrev pub AtPart : CellsOf → List Outcome → State → PartTree → Type 0
-AtPart s regs e (pass p) = 0 < e.tile → Stands e.accumulator (flat_map (told_to_pass s regs p) (points_to p.domain e.tile))
+AtPart s regs e (pass p) = 0 < e.tile
+    → Stands e.accumulator (flat_map (told_to_pass s regs p) (points_to p.domain e.tile))
 AtPart s regs e (condition c) = Unit {0}
 AtPart s regs e (item i) = AtItem s regs i e e.status
 AtPart s regs e (fieldless i) = Unit {0}
@@ -68,8 +69,8 @@ abbrev pub AtTask : CellsOf → State → List TaskTree → Type 0
 AtTask s e [] = Unit {0}
 AtTask s e (t ∷ tasks) = AtPart (cells_of s t.coverages) (read_by t e.registers.items) e t.part
 
--- It stands for a store, where s gives the cells of the plan's coverages: its progress is that of the tasks that are done, and
--- what it keeps of the task at hand is that of the tiles that are done.
+-- It stands for a store, where s gives the cells of the plan's coverages: its progress is that of the tasks that are
+-- done, and what it keeps of the task at hand is that of the tiles that are done.
 pub record StandsFor (s : CellsOf) (e : State) : Type 0 where
   pub progress : progress_of e ≡ after_all s start (tasks_done e)
   pub at_hand : AtTask s e (tasks_left e)
@@ -89,7 +90,8 @@ HasCells i e Skipping = Unit {0}
 HasCells i e (Failed f) = Unit {0}
 
 abbrev pub IsUnder : PartTree → State → Type 0
-IsUnder (pass p) e = 0 < e.tile → (e.accumulator.running.op ≡ p.op) × (e.accumulator.running.count ≤ length (points_to p.domain e.tile))
+IsUnder (pass p) e = 0 < e.tile → (e.accumulator.running.op ≡ p.op)
+    × (e.accumulator.running.count ≤ length (points_to p.domain e.tile))
 IsUnder (condition c) e = Unit {0}
 IsUnder (item i) e = HasCells i e e.status
 IsUnder (fieldless i) e = Unit {0}
@@ -108,7 +110,8 @@ IsPartOf s n part.Fieldless (fieldless i) = item_view s.item ≡ i
 IsPartOf s n _ _ = ⊥
 
 abbrev pub IsStepsOf : Plan → Task → TaskTree → Combination → Type 0
-IsStepsOf plan t tree c = (c.coverages.items ≡ tree.coverages) × IsSomeAnd (slice_get plan.steps.items c.steps) (λ s. IsPartOf s t.count t.part tree.part)
+IsStepsOf plan t tree c = (c.coverages.items ≡ tree.coverages)
+    × IsSomeAnd (slice_get plan.steps.items c.steps) (λ s. IsPartOf s t.count t.part tree.part)
 
 -- a task by places in the plan
 pub record IsTask (plan : Plan) (t : Task) (tree : TaskTree) : Type 0 where
@@ -139,7 +142,8 @@ pub record IsSound (e : State) : Type 0 where
   pub room : HasRoom e (length (tasks_left e))
   pub left : IsLeft e.left e.tile (length (flat_map stages_of (tasks_left e)))
 
--- A unit goes on to the next box, and fetches no more tiles than that before it bounds; at the end it stays and fetches none.
+-- A unit goes on to the next box, and fetches no more tiles than that before it bounds; at the end it stays and fetches
+-- none.
 abbrev pub MovesOver : PlanTree → List Stage → List Stage → ℕ → Type 0
 MovesOver plan [] after fetched = (after ≡ []) × (fetched ≡ 0)
 MovesOver plan (b ∷ before) after fetched = (after ≡ before) × (fetched ≤ bound plan b)
@@ -147,8 +151,8 @@ MovesOver plan (b ∷ before) after fetched = (after ≡ before) × (fetched ≤
 abbrev pub MovesOn : State → State → ℕ → Type 0
 MovesOn old new fetched = MovesOver (plan_of old) (boxes_left old) (boxes_left new) fetched
 
--- The units between two states, each on a box of its own: the first of the boxes that were left, as many as there are units
--- fewer. A unit for which there is no box does nothing.
+-- The units between two states, each on a box of its own: the first of the boxes that were left, as many as there are
+-- units fewer. A unit for which there is no box does nothing.
 abbrev pub boxes_done : State → State → List Stage
 boxes_done was is = take (left_of was - left_of is) (boxes_left was)
 

@@ -16,7 +16,8 @@ pub data PartTree : Type 0 where
   -- an item without fields
   fieldless : ItemTree → PartTree
 
--- A task of a combination: its coverages, and which registers it may read: so many, from the first one of the combination on.
+-- A task of a combination: its coverages, and which registers it may read: so many, from the first one of the
+-- combination on.
 pub record TaskTree : Type 0 where
   pub coverages : List ℕ
   pub first : ℕ
@@ -45,7 +46,8 @@ stages_of t = tile_stages t.coverages (bodies_of t.part) (area_of t.part)
 abbrev pub pass_tasks : List ℕ → ℕ → ℕ → List PassTree → List TaskTree
 pass_tasks coverages first n [] = []
 pass_tasks coverages first n (p ∷ passes) =
-    record { coverages = coverages; first = first; count = n; part = pass p } ∷ pass_tasks coverages first (n + 1) passes
+    record { coverages = coverages; first = first; count = n; part = pass p } ∷ pass_tasks coverages first (n + 1)
+    passes
 
 abbrev pub choice_passes : List ℕ → ℕ → Option StepsTree → List TaskTree
 choice_passes coverages first None = []
@@ -60,11 +62,13 @@ register_count (Some s) = length s.passes
 abbrev pub all_passes : List StepsTree → ℕ → List Choice → List TaskTree
 all_passes steps first [] = []
 all_passes steps first (c ∷ choices) =
-    choice_passes c.coverages first (slice_get steps c.steps) ++ all_passes steps (first + register_count (slice_get steps c.steps)) choices
+    choice_passes c.coverages first (slice_get steps c.steps) ++ all_passes steps
+    (first + register_count (slice_get steps c.steps)) choices
 
 abbrev pub condition_tasks : List ℕ → ℕ → ℕ → Option Tree → List TaskTree
 condition_tasks coverages first n None = []
-condition_tasks coverages first n (Some c) = record { coverages = coverages; first = first; count = n; part = condition c } ∷ []
+condition_tasks coverages first n (Some c) =
+    record { coverages = coverages; first = first; count = n; part = condition c } ∷ []
 
 abbrev pub choice_condition : List ℕ → ℕ → Option StepsTree → List TaskTree
 choice_condition coverages first None = []
@@ -77,7 +81,8 @@ item_part i (f ∷ fields) = item i
 
 abbrev pub choice_item : List ℕ → ℕ → Option StepsTree → List TaskTree
 choice_item coverages first None = []
-choice_item coverages first (Some s) = record { coverages = coverages; first = first; count = length s.passes; part = item_part s.item s.item.fields } ∷ []
+choice_item coverages first (Some s) =
+    record { coverages = coverages; first = first; count = length s.passes; part = item_part s.item s.item.fields } ∷ []
 
 -- the condition, if there is one, and then the item
 abbrev pub choice_outs : List ℕ → ℕ → Option StepsTree → List TaskTree
@@ -86,7 +91,8 @@ choice_outs coverages first o = choice_condition coverages first o ++ choice_ite
 abbrev pub all_outs : List StepsTree → ℕ → List Choice → List TaskTree
 all_outs steps first [] = []
 all_outs steps first (c ∷ choices) =
-    choice_outs c.coverages first (slice_get steps c.steps) ++ all_outs steps (first + register_count (slice_get steps c.steps)) choices
+    choice_outs c.coverages first (slice_get steps c.steps) ++ all_outs steps
+    (first + register_count (slice_get steps c.steps)) choices
 
 abbrev pub passes_of : PlanTree → List TaskTree
 passes_of plan = all_passes plan.steps 0 plan.combinations
@@ -100,9 +106,11 @@ tasks_of plan = passes_of plan ++ outs_of plan
 
 -- the bodies of a task have their place, with the registers that it may read
 abbrev pub IsPartPlaced : (ℕ → Option Signature) → ℕ → PartTree → Type 0
-IsPartPlaced cs regs (pass p) = IsDomain p.domain × IsPlaced cs regs (spans p.domain) p.condition × IsPlaced cs regs (spans p.domain) p.body
+IsPartPlaced cs regs (pass p) =
+    IsDomain p.domain × IsPlaced cs regs (spans p.domain) p.condition × IsPlaced cs regs (spans p.domain) p.body
 IsPartPlaced cs regs (condition c) = IsPlaced cs regs [] c
-IsPartPlaced cs regs (item i) = IsDomain i.domain × ItemIsPlaced cs regs (spans i.domain) i.binds i.fields × (0 < length i.fields)
+IsPartPlaced cs regs (item i) =
+    IsDomain i.domain × ItemIsPlaced cs regs (spans i.domain) i.binds i.fields × (0 < length i.fields)
 IsPartPlaced cs regs (fieldless i) = (i.binds ≡ []) × (i.fields ≡ [])
 
 -- how many registers a task adds
@@ -116,4 +124,5 @@ registers_made (fieldless i) = 0
 abbrev pub AreReady : List Signature → ℕ → List TaskTree → Type 0
 AreReady all n [] = Unit {0}
 AreReady all n (t ∷ tasks) =
-    (t.first + t.count ≤ n) × IsPartPlaced (signature_of all t.coverages) t.count t.part × AreReady all (n + registers_made t.part) tasks
+    (t.first + t.count ≤ n) × IsPartPlaced (signature_of all t.coverages) t.count t.part
+    × AreReady all (n + registers_made t.part) tasks

@@ -48,8 +48,8 @@ BeginsTile tile Was Is = (told : ℕ → List Told) → told 0 ≡ [] → (0 < t
 abbrev pub cells_placed : ItemTile → List (ℕ × Cell)
 cells_placed x = all_cells_told x.places.items x.booleans.items x.columns.items
 
--- the tile of an item: a column for each field with each point's outcome, each place is a cell's, and a first tile brings
--- the cells
+-- the tile of an item: a column for each field with each point's outcome, each place is a cell's, and a first tile
+-- brings the cells
 pub record FitsItem (i : ItemTree) (tile : ℕ) (status : Status) (x : ItemTile) : Type 0 where
   pub giving : status ≡ Giving
   pub columns : length x.columns.items ≡ length x.booleans.items
@@ -75,7 +75,8 @@ AfterSkipped (Failed f) after = after ≡ Failed f
 
 -- what is found is of the kind of the task
 abbrev pub FitsPart : ℕ → Status → PartTree → Found → Type 0
-FitsPart tile status (pass p) (found.Pass a) = (a.running.op ≡ p.op) × (a.running.count ≤ length (points (tile_box p.domain tile)))
+FitsPart tile status (pass p) (found.Pass a) =
+    (a.running.op ≡ p.op) × (a.running.count ≤ length (points (tile_box p.domain tile)))
 FitsPart tile status (condition c) (found.Condition o) = Unit {0}
 FitsPart tile status (item i) (found.Item x) = FitsItem i tile status x
 FitsPart tile status (item i) found.Skipped = IsNotGiven status
@@ -109,7 +110,8 @@ TellsPart s regs tile _ _ = Unit {0}
 -- what a tile of an item is found to tell is so, if what is known is
 abbrev pub IsItemFound : {K : Type 0} → SourceState K → Ground → Item → ℕ → Option Known → ItemTile → Type 0
 IsItemFound source g i tile known x =
-    Knows source g i known → source.intact → TellsItem (cells_of source.cells g.coverages.now) g.registers.now (item_view i) tile x
+    Knows source g i known → source.intact
+    → TellsItem (cells_of source.cells g.coverages.now) g.registers.now (item_view i) tile x
 
 -- the same over a source, for a combination's coverages and registers
 abbrev pub IsFound : {K : Type 0} → SourceState K → Ground → ℕ → Found → PartTree → Type 0
@@ -123,11 +125,13 @@ KnowsPartOf s regs intact status (item i) known = status ≡ Giving → intact �
 KnowsPartOf s regs intact status (fieldless i) known = Unit {0}
 
 abbrev pub KnowsPart : {K : Type 0} → SourceState K → Ground → Status → PartTree → Option Known → Type 0
-KnowsPart source g status p known = KnowsPartOf (cells_of source.cells g.coverages.now) g.registers.now source.intact status p known
+KnowsPart source g status p known =
+    KnowsPartOf (cells_of source.cells g.coverages.now) g.registers.now source.intact status p known
 
 -- what is found is that of the tile at hand, if what is known is so
 abbrev pub IsFoundBy : {K : Type 0} → SourceState K → Ground → AtHand → Found → PartTree → Type 0
-IsFoundBy source g hand x p = KnowsPart source g hand.status p (option_copied hand.known) → IsFound source g hand.tile x p
+IsFoundBy source g hand x p = KnowsPart source g hand.status p (option_copied hand.known)
+    → IsFound source g hand.tile x p
 
 -- what is found is that of the next unit
 abbrev pub TellsTask : CellsOf → State → List TaskTree → Found → Type 0
@@ -170,7 +174,8 @@ IfPart hand Holds = (p : PartTree) → HasPart hand p → Holds p
 abbrev pub GivesBy : Option PointFault → State → State → ℕ → ℕ → Type 0
 GivesBy (Some f) old new line fields = (new.status ≡ Failed f) × (new.items ≡ old.items)
 GivesBy None old new line fields =
-    (new.status ≡ old.status) × (new.items.items ≡ old.items.items ++ record { line = line; fields = fields; cells = old.cells.items } ∷ [])
+    (new.status ≡ old.status) × (new.items.items ≡ old.items.items ++ record
+    { line = line; fields = fields; cells = old.cells.items } ∷ [])
 
 -- an item whose tiles are all told is given, or its first fault stands
 pub record Gives (old new : State) (line fields : ℕ) : Type 0 where

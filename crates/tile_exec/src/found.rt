@@ -5,9 +5,9 @@ use arr_core::Cell;
 use tile_kernel::{Accumulator, Column, FirstFault};
 use wcps_mean::Outcome;
 
-/// A tile of an item: the columns of its fields, the places of its points, which fields are Boolean, and the first fault.
-/// What a run along the last axis has, and how many fields, are those of the item. A first tile brings room for the
-/// item's cells, and what it found of all its points.
+/// A tile of an item: the columns of its fields, the places of its points, which fields are Boolean, and the first
+/// fault. What a run along the last axis has, and how many fields, are those of the item. A first tile brings room for
+/// the item's cells, and what it found of all its points.
 #[derive(Drop)]
 pub(crate) struct ItemTile {
     pub columns: Vec<Column>,

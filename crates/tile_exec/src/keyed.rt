@@ -8,7 +8,7 @@ ghost use Rattle.tile_columns.specs.Calling.{Reads};
 ghost use Rattle.tile_columns.specs.Fields.{HavePlaces};
 ghost use Rattle.tile_columns.specs.Keys.{fold_of};
 ghost use Rattle.tile_columns.specs.Meaning.{IsGroundOf, IsColumnOf};
-ghost use Rattle.tile_exec.specs.Fetching.{as_item, IsPartOver, AreItemColumns, FetchesOver};
+ghost use Rattle.tile_exec.specs.Fetching.{as_item, IsPartOver, FetchesOver};
 ghost use Rattle.tile_exec.specs.Known.{Knows, KnowsFold, point_of, IsKnownBy, IsKeyedOver, IsKeyedAt, IsTilePart, FetchesBy, more_keys, Pays, IsKeyOfItem};
 ghost use Rattle.tile_exec.specs.Known.{IsColumnBy, IfColumnBy};
 ghost use Rattle.tile_exec.specs.Keyed.{IsKeyedColumn, AreColumnsKnown};

@@ -40,7 +40,8 @@ fn first_after(first: FirstFault, place: u64, o: Outcome) -> FirstFault
     }
 }
 
-/// Finds the first fault after a point, which has the k-th place of each column. Its cells have the places from `place` on.
+/// Finds the first fault after a point, which has the k-th place of each column. Its cells have the places from `place`
+/// on.
 #[inline(always)]
 fn tell_point(columns: &[Column], k: usize, place: u64, first: &mut FirstFault)
     requires there { All (λ (c : List Outcome). k < length c) columns.now }

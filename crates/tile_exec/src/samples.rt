@@ -1,6 +1,6 @@
 //! Numbers of a key, and points where it has them.
 
-ghost use Rattle.std.specs.Prelude.{◌≡◌, ◌<◌, ◌≤◌, ℕ, pos, length, map, slice_index_or, IfOk, IfSome, OnOk};
+ghost use Rattle.std.specs.Prelude.{◌≡◌, ◌<◌, ◌≤◌, pos, length, map, slice_index_or, IfOk, IfSome, OnOk};
 ghost use Rattle.std.specs.List.{All};
 ghost use Rattle.arr_core.specs.Limits.{max_tile};
 ghost use Rattle.arr_core.specs.Domains.{points, count};

@@ -15,8 +15,8 @@ pub(crate) enum Part {
     Fieldless,
 }
 
-/// A task of a combination, by its place in the plan. It may read `count` registers, from that of the combination's first
-/// pass on.
+/// A task of a combination, by its place in the plan. It may read `count` registers, from that of the combination's
+/// first pass on.
 #[derive(Clone, Copy, PartialEq, Eq)]
 pub(crate) struct Task {
     pub combination: usize,
@@ -36,8 +36,8 @@ pub(crate) enum Status {
     Failed(PointFault),
 }
 
-/// The task at hand and the steps that have its part, how many of its tiles are done, how it stands, and what is known of
-/// an item.
+/// The task at hand and the steps that have its part, how many of its tiles are done, how it stands, and what is known
+/// of an item.
 #[derive(Clone, Copy)]
 pub(crate) struct AtHand<'a> {
     pub steps: &'a Steps,

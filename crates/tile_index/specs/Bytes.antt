@@ -20,7 +20,8 @@ length_number Raw n = 2 ^ 31 + n
 
 -- the bytes of one tile and its entry
 unfoldable pub entry_bytes : ℕ × Entry → List ℕ
-entry_bytes x = number_bytes x.0 ++ (number_bytes (length_number x.1.form x.1.length) ++ flat_map number_bytes x.1.blocks)
+entry_bytes x = number_bytes x.0 ++
+    (number_bytes (length_number x.1.form x.1.length) ++ flat_map number_bytes x.1.blocks)
 
 -- the bytes of an index
 unfoldable pub index_bytes : List (ℕ × Entry) → List ℕ

@@ -1,9 +1,8 @@
 //! The index, and what it says of a tile.
 
-ghost use Rattle.std.specs.Prelude.{◌≡◌, ◌<◌, ◌≤◌, ◌^◌, ℕ, [], ◌++◌, length, flat_map, All, Option, None, Some, IfOk, OnOk, OnErr, option_copied, get_or, slice_index_or};
+ghost use Rattle.std.specs.Prelude.{◌≡◌, ◌<◌, ◌^◌, ℕ, [], ◌++◌, length, flat_map, Option, None, Some, IfOk, OnOk, OnErr, option_copied};
 ghost use Rattle.tile_index.specs.declared.entry.Entry.{Entry};
 ghost use Rattle.tile_index.specs.Bytes.{index_bytes};
-ghost use Rattle.tile_index.specs.Entries.{IsEntry};
 ghost use Rattle.tile_index.specs.Index.{found_at, changed_at, IsRising, AreSmall, AreEntries, IsIndex};
 
 use crate::changes::{are_exchanges, exchange_all, merged};

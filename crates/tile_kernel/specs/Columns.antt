@@ -79,7 +79,8 @@ AreValuesBy mark n outcomes zs = pos 0 ≤ℤ mark → AreValues n outcomes zs
 
 -- each of the first n outcomes is told by the value and the fault there
 abbrev pub AreOutcomes : ℕ → (ℕ → Outcome) → List ℤ → List (Option PointFault) → Type 0
-AreOutcomes n outcomes zs fs = (k : ℕ) → k < n → outcome_of (slice_index_or zs k (pos 0)) (slice_index_or fs k None) ≡ outcomes k
+AreOutcomes n outcomes zs fs =
+    (k : ℕ) → k < n → outcome_of (slice_index_or zs k (pos 0)) (slice_index_or fs k None) ≡ outcomes k
 
 -- the operation at each place
 abbrev pub operate_all : BinaryOperator → List Outcome → List Outcome → List Outcome

@@ -30,15 +30,18 @@ abbrev pub told_by_keys : List ℤ → List ℕ → List Outcome → List Outcom
 told_by_keys numbers places keys column k = demanded_at places (having keys (number_at numbers k)) column
 
 -- condensers take in the cells of a column, each those with its number, at these places
-abbrev pub TakeCells : {C : Type 0} → (C → List Told → Type 0) → List C → List C → List ℤ → List ℕ → List Outcome → List Outcome → Type 0
-TakeCells stands before after numbers places keys column = EachIsTold stands before after (told_by_keys numbers places keys column)
+abbrev pub TakeCells : {C : Type 0} → (C → List Told → Type 0) → List C → List C → List ℤ → List ℕ → List Outcome
+    → List Outcome → Type 0
+TakeCells stands before after numbers places keys column =
+    EachIsTold stands before after (told_by_keys numbers places keys column)
 
 -- accumulators stand for the cells of a column, each for those with its number
 abbrev pub StandByKeys : List ℤ → List ℕ → List Outcome → List Outcome → List Accumulator → Type 0
 StandByKeys numbers places keys column folds = EachStands folds (told_by_keys numbers places keys column)
 
 -- condensers take in values, each those with its number, at these places
-abbrev pub TakeIn : {C : Type 0} → (C → List Told → Type 0) → List C → List C → List ℤ → List ℕ → (ℕ → ℤ) → (ℕ → ℤ) → Type 0
+abbrev pub TakeIn : {C : Type 0} → (C → List Told → Type 0) → List C → List C → List ℤ → List ℕ → (ℕ → ℤ) → (ℕ → ℤ)
+    → Type 0
 TakeIn stands before after numbers places key value =
     (own column : List Outcome) → HasValues (length places) key own → HasValues (length places) value column
     → TakeCells stands before after numbers places own column
@@ -53,7 +56,8 @@ AreValuesOf column numbers = (z : ℤ) → Contains (values column) z ↔ Contai
 
 -- numbers are among so many from this one on
 abbrev pub LieFrom : ℤ → ℕ → List ℤ → Type 0
-LieFrom low span numbers = (k : ℕ) → k < length numbers → (low ≤ℤ number_at numbers k) × (number_at numbers k <ℤ (low +ℤ pos span))
+LieFrom low span numbers = (k : ℕ) → k < length numbers → (low ≤ℤ number_at numbers k)
+    × (number_at numbers k <ℤ (low +ℤ pos span))
 
 -- A table of numbers over a range: for each number from `low` on one more than its place, or 0.
 pub record IsTable (low : ℤ) (table : List ℕ) (numbers : List ℤ) : Type 0 where

@@ -37,7 +37,8 @@ pub record AreTried (exact : ℤ → ℤ → Outcome) (xs ys values marks : List
   pub here : pos 0 ≤ℤ first marks → exact (first xs) (first ys) ≡ Value (first values)
   pub next : pos 0 ≤ℤ second marks → exact (second xs) (second ys) ≡ Value (second values)
 
--- if the first `from` numbers were the outcomes' values, so far as the marks before tell, then so are now n more of them, so
--- far as the marks tell
+-- if the first `from` numbers were the outcomes' values, so far as the marks before tell, then so are now n more of
+-- them, so far as the marks tell
 abbrev pub GoesOn : ℕ → (ℕ → Outcome) → ℕ → List ℤ → List ℤ → List ℤ → List ℤ → Type 0
-GoesOn n outcomes from marks cells more now = (AreSure marks → AreValues from outcomes cells) → AreSure more → AreValues (from + n) outcomes now
+GoesOn n outcomes from marks cells more now =
+    (AreSure marks → AreValues from outcomes cells) → AreSure more → AreValues (from + n) outcomes now

@@ -34,7 +34,8 @@ AreAll None zs fs = Unit {0}
 AreAll (Some r) zs fs = (length zs ≡ max_tile) × (max_tile ≤ length fs)
 
 -- a column has at most 4,096 places, runs that cover them, and lists with room for as many
-pub record IsColumn (runs : Option ℕ) (form : Form) (n : ℕ) (values : Vec ℤ Global) (faults : Vec (Option PointFault) Global) (ws : List ℤ) (ns : List ℕ) : Type 0 where
+pub record IsColumn (runs : Option ℕ) (form : Form) (n : ℕ) (values : Vec ℤ Global)
+    (faults : Vec (Option PointFault) Global) (ws : List ℤ) (ns : List ℕ) : Type 0 where
   pub roomy : IsRoomy form n values.items faults.items ws
   pub covered : AreRuns runs n ns
   pub whole : AreAll runs values.items faults.items

@@ -21,4 +21,5 @@ taken times (o ∷ os) = replicate (times 0) o ++ taken (λ k. times (suc k)) os
 
 -- a condition has no fault, and is true where a place counts
 abbrev pub Chooses : (ℕ → Bool) → List Outcome → Type 0
-Chooses counts condition = (k : ℕ) (o : Outcome) → k < length condition → demanded (outcome_at condition k) o ≡ cond (counts k) (o ∷ []) []
+Chooses counts condition = (k : ℕ) (o : Outcome) → k < length condition
+    → demanded (outcome_at condition k) o ≡ cond (counts k) (o ∷ []) []

@@ -27,7 +27,8 @@ EachStands folds told = (k : ℕ) (d : Accumulator) → k < length folds → Sta
 
 -- each takes in points of its own
 abbrev pub EachTakesIn : List Accumulator → List Accumulator → (ℕ → List Told) → Type 0
-EachTakesIn before after more = (told : ℕ → List Told) → EachStands before told → EachStands after (λ k. told k ++ more k)
+EachTakesIn before after more =
+    (told : ℕ → List Told) → EachStands before told → EachStands after (λ k. told k ++ more k)
 
 -- all are of one kind
 abbrev pub AreOf : Aggregate → List Accumulator → Type 0
@@ -47,7 +48,9 @@ StandsAnywhere a column = (places : List ℕ) → length places ≡ length colum
 
 -- it stands for the cells of a column under a condition, whatever places they have
 abbrev pub IsCondensedWhere : Aggregate → List Outcome → List Outcome → Accumulator → Type 0
-IsCondensedWhere op condition column a = (places : List ℕ) → length places ≡ length column → (a.running.op ≡ op) × Stands a (demanded_at places condition column)
+IsCondensedWhere op condition column a =
+    (places : List ℕ) → length places ≡ length column → (a.running.op ≡ op)
+    × Stands a (demanded_at places condition column)
 
 -- it stands for whatever outcomes are these values, each as often as it counts
 abbrev pub IsCondensedOf : (ℕ → ℕ) → ℕ → (ℕ → ℤ) → Accumulator → Type 0
@@ -56,9 +59,11 @@ IsCondensedOf times n value a = (os : List Outcome) → HasValues n value os →
 -- if there is one, it stands for the cells of a column under whatever condition is these values
 abbrev pub IsCondensedBy : Aggregate → (ℕ → ℤ) → List Outcome → Option Accumulator → Type 0
 IsCondensedBy op value column a =
-    (condition : List Outcome) → HasValues (length column) value condition → IfSome a (IsCondensedWhere op condition column)
+    (condition : List Outcome) → HasValues (length column) value condition
+    → IfSome a (IsCondensedWhere op condition column)
 
 -- the same of outcomes that stand as often as their counts say
 abbrev pub IsCondensedByRuns : Aggregate → List ℕ → (ℕ → ℤ) → List Outcome → Option Accumulator → Type 0
 IsCondensedByRuns op ns value heads a =
-    (chosen : List Outcome) → HasValues (length ns) value chosen → IfSome a (IsCondensedWhere op (repeated chosen ns) (repeated heads ns))
+    (chosen : List Outcome) → HasValues (length ns) value chosen
+    → IfSome a (IsCondensedWhere op (repeated chosen ns) (repeated heads ns))

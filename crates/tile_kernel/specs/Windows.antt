@@ -33,5 +33,7 @@ windows op g down across = flat_map (windows_of_rows op g across) down
 
 -- the first n summaries are of the rows' cells: a row's in each span of columns, one row after the other
 abbrev pub KeepsAcross : {S : Type 0} → (S → List ℤ → Type 0) → (S → ℕ) → Grid → List Span → ℕ → List S → Type 0
-KeepsAcross keeps counted g across n kept = (row place : ℕ) (d : _) (e : Span) → place < length across → row * length across + place < n
-    → keeps (slice_index_or kept (row * length across + place) d) (cells_across g (slice_index_or across place e) row) × (counted (slice_index_or kept (row * length across + place) d) ≤ g.width)
+KeepsAcross keeps counted g across n kept =
+    (row place : ℕ) (d : _) (e : Span) → place < length across → row * length across + place < n
+    → keeps (slice_index_or kept (row * length across + place) d) (cells_across g (slice_index_or across place e) row)
+    × (counted (slice_index_or kept (row * length across + place) d) ≤ g.width)

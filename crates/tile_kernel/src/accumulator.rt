@@ -1,6 +1,6 @@
 //! What is kept of the points that a condenser has been told of, in whatever order.
 
-ghost use Rattle.std.specs.Prelude.{◌≡◌, ℕ, ◌+◌, ◌<◌, ◌≤◌, List, [], ◌∷◌};
+ghost use Rattle.std.specs.Prelude.{◌≡◌, ◌+◌, ◌<◌, ◌≤◌, List, [], ◌∷◌};
 ghost use Rattle.arr_core.specs.Limits.{max_points};
 ghost use Rattle.tile_kernel.specs.Told.{Told};
 

@@ -22,8 +22,8 @@ pub const MAX_PLACES: usize = 4096;
 
 /// The outcomes at the places of a tile, at most `MAX_PLACES` of them. It is made once with room for all of them, which
 /// is cleared only as far as it is used, and then written again and again without taking memory, but for the counts of
-/// runs and for values of 32 bits. One outcome at every place is kept once, values that come as runs are kept once a run,
-/// values that come in 32 bits each are kept so, and a column without a fault keeps no faults.
+/// runs and for values of 32 bits. One outcome at every place is kept once, values that come as runs are kept once a
+/// run, values that come in 32 bits each are kept so, and a column without a fault keeps no faults.
 #[derive(Drop)]
 pub struct Column {
     pub(crate) len: usize,
@@ -113,8 +113,8 @@ impl Column {
         }
     }
 
-    /// The outcome at a place. Where values are kept as runs it is looked for from the first one on: `spread` first where
-    /// many places are read.
+    /// The outcome at a place. Where values are kept as runs it is looked for from the first one on: `spread` first
+    /// where many places are read.
     pub fn at(&self, place: usize) -> Outcome
         requires { place < length self.now }
         ensures { slice_get self.now place ≡ Some result }
@@ -238,8 +238,8 @@ impl Column {
         self.form = Form::Mixed;
     }
 
-    /// Makes each of its outcomes stand as often as its count says, over `len` places in all, if all are values and there
-    /// is memory for the counts; tells whether it did.
+    /// Makes each of its outcomes stand as often as its count says, over `len` places in all, if all are values and
+    /// there is memory for the counts; tells whether it did.
     pub(crate) fn repeat(&mut self, counts: &[u32], len: usize) -> bool
         requires even { length counts.now ≡ length self.old }
         requires total { sum counts.now ≡ len }

@@ -18,9 +18,9 @@ use crate::summary::Summary;
 use crate::view::View;
 use wcps_mean::Outcome;
 
-/// What a condenser keeps of points of one box, at most 2^24 of them, each told by its place in the row-major list of the
-/// box. Its laws: no point more changes nothing, parts are put together in whatever order and grouping, and the end is
-/// the condenser of all points in row-major order.
+/// What a condenser keeps of points of one box, at most 2^24 of them, each told by its place in the row-major list of
+/// the box. Its laws: no point more changes nothing, parts are put together in whatever order and grouping, and the end
+/// is the condenser of all points in row-major order.
 pub trait Condenser: Copy {
     /// The condenser's kind.
     ghost op: { Aggregate };
@@ -237,8 +237,8 @@ fn tell_view<C: Condenser>(condensers: &mut [C], place: u64, column: &View<'_>)
     }
 }
 
-/// The outcome of two parts of a box, in whatever order their points were told: the condenser of all points in row-major
-/// order.
+/// The outcome of two parts of a box, in whatever order their points were told: the condenser of all points in
+/// row-major order.
 pub fn finish_both<C: Condenser>(a: C, b: C) -> Outcome
     requires { C.counted a + C.counted b ≤ max_points }
     ensures { ComesToBoth C.op C.stands a b result }

@@ -1,6 +1,6 @@
 //! Condensers over columns.
 
-ghost use Rattle.std.specs.Prelude.{◌≡◌, ℕ, ◌+◌, ◌<◌, ◌≤◌, [], ◌∷◌, length, map, sum, IfSome};
+ghost use Rattle.std.specs.Prelude.{◌≡◌, ◌+◌, ◌<◌, ◌≤◌, [], ◌∷◌, length, map, sum, IfSome};
 ghost use Rattle.arr_core.specs.Limits.{max_points, max_tile};
 ghost use Rattle.wcps_text.specs.declared.operator.Aggregate.{Aggregate};
 ghost use Rattle.wcps_mean.specs.declared.cell.Outcome.TheVariants.{Value};
@@ -126,8 +126,8 @@ pub fn fold_values(op: Aggregate, column: &Column) -> Option<Accumulator>
     }
 }
 
-/// The accumulator of a column under a condition, whatever places its cells have; none where a cell or its condition may
-/// have a fault.
+/// The accumulator of a column under a condition, whatever places its cells have; none where a cell or its condition
+/// may have a fault.
 pub fn fold_values_where(op: Aggregate, condition: &Column, column: &Column) -> Option<Accumulator>
     requires { length condition.now ≡ length column.now }
     ensures stands { IfSome result (λ a. IsCondensedWhere op condition.now column.now a) }

@@ -126,8 +126,8 @@ fn tell_values<C: Condenser, N: Numbers, K: Operand + Drop, V: Operand + Drop>(
 }
 
 /// Each condenser is told of those cells of a column whose key is its number, at their places in the box: in one pass
-/// what a fold under the condition that the key is the number tells each of them. Keys and cells without faults are taken
-/// in one loop over their values.
+/// what a fold under the condition that the key is the number tells each of them. Keys and cells without faults are
+/// taken in one loop over their values.
 pub fn add_keyed<C: Condenser, N: Numbers>(
     folds: &mut [C],
     numbers: &N,

@@ -101,8 +101,8 @@ fn try_blocks<O: LaneTrial, L: Operand, R: Operand>(
     joined(marks)
 }
 
-/// Tries an operation at the first `len` places, in lanes where there are eight places more; tells whether each result is
-/// the operation's value.
+/// Tries an operation at the first `len` places, in lanes where there are eight places more; tells whether each result
+/// is the operation's value.
 pub(crate) fn try_lanes<O: LaneTrial, L: Operand, R: Operand>(
     len: usize,
     left: &L,

@@ -94,8 +94,8 @@ fn write_bounded<O: NarrowTrial, L: NarrowOperand, R: NarrowOperand>(
     }
 }
 
-/// Writes at the first `len` places the values of an operation that fit 32 bits, anything where one does not, if there is
-/// memory for them, and gives bounds of the operands.
+/// Writes at the first `len` places the values of an operation that fit 32 bits, anything where one does not, if there
+/// is memory for them, and gives bounds of the operands.
 pub(crate) fn try_bounded<O: NarrowTrial, L: NarrowOperand, R: NarrowOperand>(
     len: usize,
     left: &L,

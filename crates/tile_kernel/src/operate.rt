@@ -27,8 +27,8 @@ use wcps_text::BinaryOperator;
 /// Makes `out` the operation at each place: the left operand's fault, else the right one's, else the exact result,
 /// tested. Operands without faults are tried in one loop, and in 32 bits where their values are such and each result is
 /// seen to be; only where some result there is no value is each place taken by itself. Operands over the same runs are
-/// taken run by run where each result is a value. It takes memory for values of 32 bits and for the counts of runs alone,
-/// and does without where there is none.
+/// taken run by run where each result is a value. It takes memory for values of 32 bits and for the counts of runs
+/// alone, and does without where there is none.
 pub fn operate_columns(op: BinaryOperator, left: &Column, right: &Column, out: &mut Column)
     requires { length left.now ≡ length right.now }
     ensures { out.new ≡ operate_all op left.now right.now }
@@ -107,8 +107,8 @@ fn operate_spread_narrow(
     }
 }
 
-/// Tries the operation place by place in values of 32 bits, where the left operand is kept place by place; tells whether
-/// it did.
+/// Tries the operation place by place in values of 32 bits, where the left operand is kept place by place; tells
+/// whether it did.
 fn operate_spread_right(
     op: BinaryOperator,
     left: &View<'_>,

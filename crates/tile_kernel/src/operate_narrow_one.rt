@@ -15,8 +15,8 @@ use crate::operations::{Itself, Magnitude, Negative, Opposite};
 use crate::view::View;
 use wcps_text::UnaryOperator;
 
-/// Makes `out` the operation at each place in values of 32 bits, if the operand is such values, each result is seen to be
-/// one, and there is memory for them; tells whether it did.
+/// Makes `out` the operation at each place in values of 32 bits, if the operand is such values, each result is seen to
+/// be one, and there is memory for them; tells whether it did.
 pub(crate) fn operate_narrow_one(op: UnaryOperator, operand: &View<'_>, out: &mut Column) -> bool
     ensures { IsTrue result → out.new ≡ map (operate1 op) operand.now }
 {

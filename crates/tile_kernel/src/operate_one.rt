@@ -18,8 +18,9 @@ use wcps_mean::{PointFault, operate};
 use wcps_text::UnaryOperator;
 
 /// Makes `out` the operation at each place: the operand's fault, else the exact result, tested. Values of 32 bits stay
-/// such where each result is seen to be one, and an operand that is kept as runs is taken run by run where each result is
-/// a value. It takes memory for values of 32 bits and for the counts of runs alone, and does without where there is none.
+/// such where each result is seen to be one, and an operand that is kept as runs is taken run by run where each result
+/// is a value. It takes memory for values of 32 bits and for the counts of runs alone, and does without where there is
+/// none.
 pub fn operate_column(op: UnaryOperator, operand: &Column, out: &mut Column)
     ensures { out.new ≡ map (operate1 op) operand.now }
 {

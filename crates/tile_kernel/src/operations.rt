@@ -1,8 +1,8 @@
 //! The cell operations as trials.
 
-ghost use Rattle.std.specs.Prelude.{◌≡◌, pos, int_le, int_lt, ◌&&◌, ◌||◌, not, IsTrue, FitsSigned};
+ghost use Rattle.std.specs.Prelude.{◌≡◌, pos, ◌&&◌, ◌||◌, IsTrue, FitsSigned};
 ghost use Rattle.std.specs.Int.{w32};
-ghost use Rattle.wcps_mean.specs.Cells.{number, int_eq};
+ghost use Rattle.wcps_mean.specs.Cells.{number};
 
 use crate::trial::{Trial, Tried};
 use wcps_mean::is_set;

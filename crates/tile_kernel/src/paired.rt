@@ -1,6 +1,6 @@
 //! Two columns over the same runs.
 
-ghost use Rattle.std.specs.Prelude.{◌≡◌, ◌≤◌, length, sum, IfSome};
+ghost use Rattle.std.specs.Prelude.{◌≡◌, length, IfSome};
 ghost use Rattle.tile_kernel.specs.Repeated.{shown, StandsOver, ArePaired};
 
 use crate::form::Form;

@@ -1,6 +1,6 @@
 //! What a condenser keeps of a column's values.
 
-ghost use Rattle.std.specs.Prelude.{◌≡◌, ◌+◌, ◌*◌, ◌≤◌, ◌^◌, ℤ, pos, neg_ℤ, ◌+ℤ◌, ◌≤ℤ◌, List, ◌++◌, ◌∷◌, []};
+ghost use Rattle.std.specs.Prelude.{◌≡◌, ◌+◌, ◌*◌, ◌≤◌, ◌^◌, ℤ, pos, neg_ℤ, ◌+ℤ◌, ◌≤ℤ◌, List, ◌++◌};
 ghost use Rattle.std.specs.Prelude.{◌<◌, length, replicate, None, IfSome, cond, nat_lt};
 ghost use Rattle.arr_core.specs.Limits.{max_tile};
 ghost use Rattle.wcps_mean.specs.Condensers.{total, trues, larger, smaller};

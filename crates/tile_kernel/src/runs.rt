@@ -117,8 +117,8 @@ const BLOCK: usize = 8;
 /// As many cells as a column has places at most, and a block behind them.
 pub(crate) const NARROW_ROOM: usize = 4104;
 
-/// Writes a value to so many cells from a place on, in blocks, without a branch for each cell: what stood behind them may be
-/// lost.
+/// Writes a value to so many cells from a place on, in blocks, without a branch for each cell: what stood behind them
+/// may be lost.
 #[inline(always)]
 fn write_blocks(cells: &mut [i32], from: usize, count: usize, value: i32)
     requires { from + count + 8 ≤ length cells.old }

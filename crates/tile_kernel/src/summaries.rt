@@ -1,10 +1,10 @@
 //! The summary of each condenser.
 
-ghost use Rattle.std.specs.Prelude.{◌≡◌, ◌+◌, ◌*◌, ◌≤◌, ◌^◌, ℤ, pos, neg_ℤ, ◌+ℤ◌, ◌≤ℤ◌, List, length};
+ghost use Rattle.std.specs.Prelude.{◌≡◌, ◌+◌, ◌*◌, ◌≤◌, ◌^◌, ℤ, pos, neg_ℤ, ◌+ℤ◌, ◌≤ℤ◌, length};
 ghost use Rattle.std.specs.Prelude.{None};
 ghost use Rattle.arr_core.specs.Limits.{max_points};
 ghost use Rattle.wcps_mean.specs.Best.{greatest_of, least_of};
-ghost use Rattle.wcps_mean.specs.Condensers.{combined, total, every, any, trues};
+ghost use Rattle.wcps_mean.specs.Condensers.{total, every, any, trues};
 ghost use Rattle.wcps_text.specs.declared.operator.Aggregate.TheVariants as kind;
 
 use crate::joined::{best_of, both, either};

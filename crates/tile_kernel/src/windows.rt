@@ -1,5 +1,5 @@
-//! Condensers over windows: what is combined of the cells round each place of a box. Each row of cells is condensed once
-//! for each span of columns, and of these a window puts its rows together.
+//! Condensers over windows: what is combined of the cells round each place of a box. Each row of cells is condensed
+//! once for each span of columns, and of these a window puts its rows together.
 
 ghost use Rattle.std.specs.Prelude.{◌≡◌, ℕ, ◌+◌, ◌*◌, ◌<◌, ◌≤◌, ◌++◌, length, slice_index_or, IfOk, OnOk};
 ghost use Rattle.std.specs.List.{All};
@@ -169,9 +169,9 @@ fn condense_by<S: Summary>(
     Ok(())
 }
 
-/// Makes the outcomes those of the windows of a box of places, in row-major order: a span of rows for each row of places,
-/// and a span of columns for each place of a row. A window is the cells in both, and its outcome is their combination.
-/// The cost of a place grows with the sum of the lengths of its spans, and not with their product.
+/// Makes the outcomes those of the windows of a box of places, in row-major order: a span of rows for each row of
+/// places, and a span of columns for each place of a row. A window is the cells in both, and its outcome is their
+/// combination. The cost of a place grows with the sum of the lengths of its spans, and not with their product.
 pub fn condense_windows(
     alloc: Global,
     op: Aggregate,

@@ -48,7 +48,8 @@ field_count n = min n 4294967295
 
 -- the item of a combination, or the first fault
 abbrev pub item_answer : (ℕ → ℕ → List ℤ → ℤ) → ItemTree → Result Item PointFault
-item_answer s i = then_of (item_cells s i) (λ cells. Ok (record { line = line_of i.domain; fields = field_count (length i.fields); cells = cells }))
+item_answer s i = then_of (item_cells s i)
+    (λ cells. Ok (record { line = line_of i.domain; fields = field_count (length i.fields); cells = cells }))
 
 -- whether a combination gives an item: it has no condition, or its condition is true
 abbrev pub chosen : (ℕ → ℕ → List ℤ → ℤ) → Option Typed → Result Bool PointFault
@@ -57,7 +58,8 @@ chosen s (Some c) = given truth_of (val s c [] [])
 
 -- the item of a combination, nothing where its condition is false, or the first fault
 abbrev pub combination_answer : (ℕ → ℕ → List ℤ → ℤ) → CombinationTree → Result (List Item) PointFault
-combination_answer s c = then_of (chosen s c.condition) (λ b. cond b (then_of (item_answer s c.item) (λ i. Ok (i ∷ []))) (Ok []))
+combination_answer s c = then_of (chosen s c.condition)
+    (λ b. cond b (then_of (item_answer s c.item) (λ i. Ok (i ∷ []))) (Ok []))
 
 -- the items of all combinations in order, or the first fault; s gives the cells
 abbrev pub answer : (ℕ → ℕ → List ℤ → ℤ) → TypedTree → Result (List Item) PointFault

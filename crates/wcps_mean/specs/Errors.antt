@@ -24,12 +24,14 @@ Answers g store (Ok x) f = g.intact store → f (g.cells store) ≡ Ok x
 Answers g store (Err e) f = g.intact store → TellsFault e (f (g.cells store))
 
 -- the same of a list
-abbrev pub Lists : {S A : Type 0} → Ghosts S → S → Result (Vec A Global) EvalError → (CellsOf → Result (List A) PointFault) → Type 0
+abbrev pub Lists : {S A : Type 0} → Ghosts S → S → Result (Vec A Global) EvalError
+    → (CellsOf → Result (List A) PointFault) → Type 0
 Lists g store (Ok xs) f = g.intact store → f (g.cells store) ≡ Ok xs.items
 Lists g store (Err e) f = g.intact store → TellsFault e (f (g.cells store))
 
 -- the same, where the answer is put at the end of a list
-abbrev pub Pushes : {S A B : Type 0} → Ghosts S → S → Result B EvalError → (CellsOf → Result (List A) PointFault) → Vec A Global → Vec A Global → Type 0
+abbrev pub Pushes : {S A B : Type 0} → Ghosts S → S → Result B EvalError → (CellsOf → Result (List A) PointFault)
+    → Vec A Global → Vec A Global → Type 0
 Pushes g store (Ok x) f old new = g.intact store → PushesCells (f (g.cells store)) old.items new.items
 Pushes g store (Err e) f old new = g.intact store → TellsFault e (f (g.cells store))
 

@@ -27,5 +27,6 @@ val s (slice e axis lo hi i) env p = at_position (val s i env []) lo hi (λ z. v
 val s (array e) env p = val s e (env ++ p) []
 val s (listed box items) env p = Value (get_or items (rank_of box p) (pos 0))
 val s (condense op box e) env p = condensed op (map (λ x. val s e (env ++ x) []) (points box))
-val s (condense_where op box c e) env p = condensed op (flat_map (λ x. demanded (val s c (env ++ x) []) (val s e (env ++ x) [])) (points box))
+val s (condense_where op box c e) env p =
+    condensed op (flat_map (λ x. demanded (val s c (env ++ x) []) (val s e (env ++ x) [])) (points box))
 val s (reduce op box e) env p = condensed op (map (λ x. val s e env x) (points box))

@@ -7,4 +7,5 @@ use Rattle.wcps_mean.specs.Parts.{PartTree, at_point, part_of}
 
 -- the part over its coverages, which is there
 abbrev pub part_view : QueryPart → PartTree
-part_view p = unwrap_or (part_of p.part (over p.coverages.items (option_map tree_view p.tree))) (at_point (number (pos 0)))
+part_view p = unwrap_or (part_of p.part (over p.coverages.items (option_map tree_view p.tree)))
+    (at_point (number (pos 0)))

@@ -33,7 +33,8 @@ outcome_in scope t s = val s (renamed scope.coverages.now t) scope.iterators.ite
 
 -- the same where a coordinate is put into the point
 abbrev pub outcome_with : Scope → Typed → ℕ → ℤ → CellsOf → Outcome
-outcome_with scope t axis z s = val s (renamed scope.coverages.now t) scope.iterators.items (insert (point_in scope) axis z)
+outcome_with scope t axis z s =
+    val s (renamed scope.coverages.now t) scope.iterators.items (insert (point_in scope) axis z)
 
 -- a typed tree and an item over coverages
 abbrev pub tree_over : List ℕ → Tree → CombinationTree

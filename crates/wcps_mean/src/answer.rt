@@ -1,6 +1,6 @@
 //! The answer of a query: its items, or the first fault.
 
-ghost use Rattle.std.specs.Prelude.{◌≡◌, ◌<◌, ◌≤◌, ◌*◌, false, get_or, List, [], ◌∷◌, ◌++◌, Ok, Err, Result, OnOk, MatchResult, length, map, option_map, vec_len};
+ghost use Rattle.std.specs.Prelude.{◌≡◌, ◌<◌, ◌≤◌, ◌*◌, false, get_or, [], ◌∷◌, Ok, Err, Result, OnOk, length, vec_len};
 ghost use Rattle.arr_core.specs.Domains.{count};
 ghost use Rattle.wcps_types.specs.Cells.{result_cells, max_cells};
 ghost use Rattle.wcps_types.specs.Typed.{tree_view};

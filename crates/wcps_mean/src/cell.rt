@@ -3,7 +3,7 @@
 //! A Boolean stands as 0 or 1; the static kind of an expression says which it is. Arithmetic is exact and then tested
 //! against 64 bits. (WCPS, OGC 08-068r2: induced operations; the range of the integers is this server's own.)
 
-ghost use Rattle.std.specs.Prelude.{◌≡◌, ◌≤◌, ℤ, ◌+ℤ◌, ◌-ℤ◌, ◌*ℤ◌, neg_ℤ, pos, nat_abs, int_lt, int_le, SomeIff, FitsSigned, cond, not, ◌&&◌, ◌||◌};
+ghost use Rattle.std.specs.Prelude.{◌≡◌, ◌≤◌, ℤ, ◌+ℤ◌, ◌-ℤ◌, ◌*ℤ◌, neg_ℤ, pos, nat_abs, SomeIff, FitsSigned, cond, ◌&&◌, ◌||◌};
 ghost use Rattle.std.specs.Int.{w64};
 ghost use Rattle.arr_core.specs.Cells.{truth_of};
 ghost use Rattle.wcps_mean.specs.Cells.{ranged, truth, quotient, bit, int_eq, exact1, exact2, operate1, operate2, coordinate_in, at_position, TestsAs};

@@ -1,15 +1,11 @@
 //! Evaluation at a point.
 
-ghost use Rattle.std.specs.Prelude.{◌≡◌, ℕ, ◌+◌, ◌<◌, ◌≤◌, ℤ, List, [], ◌∷◌, ◌++◌, length, OnOk, map, drop, insert, vec_len};
-ghost use Rattle.arr_core.specs.Domains.{points as box_points};
+ghost use Rattle.std.specs.Prelude.{◌≡◌, ◌+◌, ◌<◌, ◌≤◌, List, OnOk, insert, vec_len};
 ghost use Rattle.wcps_mean.specs.declared.cell.Outcome.{Outcome};
-ghost use Rattle.wcps_mean.specs.Condensers.{condensed};
-ghost use Rattle.wcps_mean.specs.Meaning.{val};
 ghost use Rattle.wcps_mean.specs.Reading.{Leaves, Returns};
 ghost use Rattle.wcps_mean.specs.Reports.{Reports};
-ghost use Rattle.wcps_mean.specs.Scopes.{IsSame, outcome_in, outcome_with, point_in};
+ghost use Rattle.wcps_mean.specs.Scopes.{IsSame, outcome_in, outcome_with};
 ghost use Rattle.wcps_types.specs.Typed.{field_tree, only_tree, scalar, array, condense, reduce};
-ghost use Rattle.wcps_types.specs.Renamed.{renamed};
 
 use crate::cell::{Outcome, coordinate_in, operate, operate_both};
 use crate::cells::{CellError, Cells};

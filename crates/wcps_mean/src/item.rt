@@ -41,14 +41,6 @@ impl CellList {
     {
         self.cells.len()
     }
-
-    /// The cells again as a list that can grow.
-    pub fn into_vec(self) -> Vec<Cell>
-        ensures { result.items ≡ self }
-    {
-        let CellList { cells } = self;
-        cells
-    }
 }
 
 /// One item of an answer: the cells of a value on a domain.

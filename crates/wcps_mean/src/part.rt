@@ -1,6 +1,6 @@
 //! Parts of a combination, and where they stand in its tree.
 
-ghost use Rattle.std.specs.Prelude.{◌≡◌, List, Option, Some, None, option_map};
+ghost use Rattle.std.specs.Prelude.{◌≡◌, Option, Some, None, option_map};
 ghost use Rattle.wcps_types.specs.Typed.{field_tree, tree_view};
 ghost use Rattle.wcps_mean.specs.Parts.{part_of, condition_part, body_part};
 ghost use Rattle.wcps_mean.specs.Spots.{part_at};

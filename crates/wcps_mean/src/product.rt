@@ -1,6 +1,6 @@
 //! Products whose partial results may leave the range.
 
-ghost use Rattle.std.specs.Prelude.{◌≡◌, ◌+◌, ◌*◌, ◌<◌, ◌≤◌, ◌^◌, ℤ, pos, ◌*ℤ◌, List, [], ◌∷◌, ◌++◌, nat_abs, min};
+ghost use Rattle.std.specs.Prelude.{◌≡◌, ◌+◌, ◌*◌, ◌<◌, ◌≤◌, ◌^◌, ℤ, List, [], ◌∷◌, ◌++◌, min};
 ghost use Rattle.wcps_mean.specs.Condensers.{product};
 ghost use Rattle.wcps_mean.specs.Cells.{ranged, differ};
 ghost use Rattle.wcps_mean.specs.Magnitudes.{is_negative, cap};

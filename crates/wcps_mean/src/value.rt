@@ -1,6 +1,5 @@
 //! The outcome of a part of a query at a point.
 
-ghost use Rattle.std.specs.Prelude.{◌≡◌, ℤ, List, []};
 ghost use Rattle.wcps_mean.specs.Parts.{part_outcome, part_over};
 ghost use Rattle.wcps_mean.specs.QueryParts.{part_view};
 ghost use Rattle.wcps_mean.specs.Reading.{Leaves, Returns};

@@ -160,10 +160,6 @@ pub stops_right_paren : (rest : List Tok) → Stops (sign signs.RightParen ∷ r
 unfolding postfix_at
 stops_right_paren rest = record { quiet = λ r. quiet_none r (sign signs.RightParen) rest refl; no_postfix = refl }
 
-pub stops_right_bracket : (rest : List Tok) → Stops (sign signs.RightBracket ∷ rest)
-unfolding postfix_at
-stops_right_bracket rest = record { quiet = λ r. quiet_none r (sign signs.RightBracket) rest refl; no_postfix = refl }
-
 pub stops_right_brace : (rest : List Tok) → Stops (sign signs.RightBrace ∷ rest)
 unfolding postfix_at
 stops_right_brace rest = record { quiet = λ r. quiet_none r (sign signs.RightBrace) rest refl; no_postfix = refl }
@@ -187,10 +183,6 @@ stops_using rest = record { quiet = λ r. quiet_none r (word words.Using) rest r
 pub stops_return : (rest : List Tok) → Stops (word words.Return ∷ rest)
 unfolding postfix_at
 stops_return rest = record { quiet = λ r. quiet_none r (word words.Return) rest refl; no_postfix = refl }
-
-pub stops_where : (rest : List Tok) → Stops (word words.Where ∷ rest)
-unfolding postfix_at
-stops_where rest = record { quiet = λ r. quiet_none r (word words.Where) rest refl; no_postfix = refl }
 
 pub no_postfix_binary : (op : BinaryOperator) (rest : List Tok) → postfix_at (binary_token op ∷ rest) ≡ None
 unfolding postfix_at

@@ -8,7 +8,7 @@ use Rattle.wcps_parse.specs.declared.error.ParseError.{ParseError}
 use Rattle.wcps_parse.specs.declared.error.ParseError.TheVariants.{BadSyntax, TooDeep, NoMemory}
 use Rattle.wcps_parse.specs.declared.grown.Grown.{Grown}
 use Rattle.wcps_parse.specs.Front.{Reading}
-use Rattle.wcps_parse.specs.Fit.{Fails, Gives, Reads, ReadsAll}
+use Rattle.wcps_parse.specs.Fit.{Fails, Reads, ReadsAll}
 
 pub comes_now : {A : Type 0} (a : A) → Comes (λ n m. a) a
 comes_now a = record { from = 0; there = λ n m a b. refl }
@@ -47,10 +47,6 @@ pub fails_then : {Y Z : Type 0} {f : ℕ → ℕ → Option Y} {g : ℕ → ℕ 
 fails_then BadSyntax h k = k h
 fails_then TooDeep h k = h
 fails_then NoMemory h k = tt
-
-pub gives_then : {X Y : Type 0} {f g : ℕ → ℕ → Option Y} (view : X → Y) (r : Result X ParseError) → Gives view r f → ((o : Option Y) → Comes f o → Comes g o) → Gives view r g
-gives_then view (Ok x) h k = k (Some (view x)) h
-gives_then view (Err e) h k = fails_then e h (k None)
 
 pub reads_then : {T M : Type 0} {f g : ℕ → ℕ → Reading M} (Fits : Grown T → M → Type 0) (r : Result (Grown T × Bor (List Token)) ParseError) → Reads Fits r f
     → ((o : Reading M) → Comes f o → Comes g o) → Reads Fits r g

@@ -10,7 +10,7 @@ use Rattle.wcps_text.specs.declared.operator.BinaryOperator.TheVariants as binar
 use Rattle.wcps_text.specs.declared.operator.Aggregate.{Aggregate}
 use Rattle.wcps_text.specs.Token.{Tok, number, name, word, sign}
 use Rattle.wcps_text.specs.Tree as tree
-use Rattle.wcps_text.specs.Tree.{Tree, Parts, Subs, PlaceTree, trim, at, IntervalTree, Iters, Condition}
+use Rattle.wcps_text.specs.Tree.{Tree, Parts, Subs, PlaceTree, at, IntervalTree, Iters, Condition}
 use Rattle.wcps_text.specs.Grammar as grammar
 use Rattle.wcps_text.specs.Grammar.{Prefixes, binary_token, rank_of, truth_word, Reduces, to_count, to_any, to_every, to_sum, to_average, to_least, to_greatest, max_rank, Openness, closed, open_ended, SpellsVariable, plain_name, dollar_name, Spells, SpellsInParens, SpellsPost, SpellsPart, SpellsParts, SpellsSub, SpellsSubs, SpellsPlace, SpellsInterval, SpellsIter, SpellsIters, SpellsCondition}
 use Rattle.wcps_parse.specs.declared.front.Postfix.TheVariants as postfixes
@@ -25,7 +25,8 @@ use Rattle.wcps_parse.proofs.Sound.{Ends}
 use Rattle.wcps_parse.proofs.Levels.{Below}
 use Rattle.wcps_parse.proofs.Whole.{separated_whole, no_comma_bracket, no_comma_word, no_semicolon_brace, enclosed_whole, in_parens_whole, bit_whole, part_whole, fields_whole, domain_whole, IntervalComes, by_bounds, by_domain, interval_whole, place_trim, place_at, no_bounds_word, sub_whole, iter_whole, ItersCome, PartsCome, SubsCome, value_list_whole, coverage_whole, condition_always, condition_only, no_where_using, ConditionComes, condense_whole, post_whole, operand_whole, no_bounds, no_domain}
 
--- what may follow an expression of a rank: no operator of a tighter one, none at all behind an open one, and no field and no bracket
+-- what may follow an expression of a rank: no operator of a tighter one, none at all behind an open one, and no field
+-- and no bracket
 pub record CanFollow (o : Openness) (q : ℕ) (rest : List Tok) : Type 0 where
   pub below : Below q rest
   pub ends : Ends o rest

@@ -6,7 +6,7 @@ use Rattle.wcps_text.specs.Token.{Tok, word, sign}
 use Rattle.wcps_text.specs.Tree as tree
 use Rattle.wcps_text.specs.Tree.{Tree, Condition, always, only, BindingTree, ItemTree, QueryTree}
 use Rattle.wcps_text.specs.Grammar as grammar
-use Rattle.wcps_text.specs.Grammar.{max_rank, Openness, Spells, SpellsVariable, SpellsNames, SpellsBinding, SpellsBindings, IsFormat, SpellsReturn, SpellsEnd, IsSpelled}
+use Rattle.wcps_text.specs.Grammar.{max_rank, Spells, SpellsVariable, SpellsNames, SpellsBinding, SpellsBindings, IsFormat, SpellsReturn, SpellsEnd, IsSpelled}
 use Rattle.wcps_parse.specs.Comes.{Comes}
 use Rattle.wcps_parse.specs.Front.{sign_at, word_at, name_at, prefix_at, start_at}
 use Rattle.wcps_parse.specs.Reading.{Reader, condition, level, names, binding_at, bindings, at_end, encoded, item, query}

@@ -7,9 +7,9 @@ use Rattle.wcps_text.specs.declared.operator.BinaryOperator.TheVariants as binar
 use Rattle.wcps_text.specs.declared.tree.ListItem.{ListItem}
 use Rattle.wcps_text.specs.Token.{Tok, name, word, sign}
 use Rattle.wcps_text.specs.Tree as tree
-use Rattle.wcps_text.specs.Tree.{Tree, PlaceTree, trim, at, IntervalTree, bounds, Iters, Condition, always, only}
+use Rattle.wcps_text.specs.Tree.{Tree, PlaceTree, trim, at, IntervalTree, Iters, Condition, always, only}
 use Rattle.wcps_text.specs.Grammar as grammar
-use Rattle.wcps_text.specs.Grammar.{truth_word, max_rank, Openness, closed, open_ended, Spells, SpellsInParens, SpellsPost, SpellsPart, SpellsParts, SpellsSub, SpellsSubs, SpellsPlace, SpellsInterval, SpellsIter, SpellsIters, SpellsItems, SpellsCondition}
+use Rattle.wcps_text.specs.Grammar.{max_rank, Openness, closed, open_ended, Spells, SpellsInParens, SpellsPost, SpellsPart, SpellsParts, SpellsSub, SpellsSubs, SpellsPlace, SpellsInterval, SpellsIters, SpellsItems, SpellsCondition}
 use Rattle.wcps_parse.specs.Front.{word_at, item_at, binary_at, postfix_at, Begin, with_number, with_truth, with_variable, with_paren, with_brace, with_abs, with_bit, with_reduce, with_coverage, with_condense}
 use Rattle.wcps_parse.specs.Reading.{Reader, NamedTree, NamedPlace, NamedInterval, parts_from, subs_from, iters_from, enclosed, in_parens, bit, part_at, parts, fields, domain, place, interval, sub_at, subs, iter_at, iters, items, listed, coverage, condition, condense, begun}
 use Rattle.wcps_parse.proofs.Options.{bind_ok, choose_ok, found_is}

@@ -10,7 +10,7 @@ use Rattle.wcps_text.specs.declared.operator.Aggregate.{Aggregate}
 use Rattle.wcps_text.specs.declared.tree.ListItem.{ListItem}
 use Rattle.wcps_text.specs.Token.{Tok, number, name, word, sign}
 use Rattle.wcps_text.specs.Tree as tree
-use Rattle.wcps_text.specs.Tree.{Tree, Parts, Subs, PlaceTree, trim, at, IntervalTree, bounds, Iters, Condition, always, only}
+use Rattle.wcps_text.specs.Tree.{Tree, Parts, Subs, PlaceTree, trim, at, IntervalTree, Iters, Condition, always, only}
 use Rattle.wcps_text.specs.Grammar.{Condenses, max_rank, SpellsInt, unsigned, positive, negative, SpellsItems, last_item, more_items, SpellsVariable}
 use Rattle.wcps_parse.specs.Comes.{Comes}
 use Rattle.wcps_parse.specs.Front.{Reading, ◌>>=◌, sign_at, word_at, int_at, bounds_at, item_at, prefix_at, postfix_at, Begin, with_number, start_at}

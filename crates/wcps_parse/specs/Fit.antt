@@ -33,13 +33,15 @@ Gives view (Ok x) f = Comes f (Some (view x))
 Gives view (Err e) f = Fails e f
 
 -- what reading comes to, of which g is kept: `Fits` says when that is kept of a thing
-pub record Kept {T M : Type 0} (Fits : Grown T → M → Type 0) (g : Grown T) (rest : List Tok) (f : ℕ → ℕ → Reading M) : Type 0 where
+pub record Kept {T M : Type 0} (Fits : Grown T → M → Type 0) (g : Grown T) (rest : List Tok)
+    (f : ℕ → ℕ → Reading M) : Type 0 where
   pub whole : M
   pub fit : Fits g whole
   pub comes : Comes f (Some (whole, rest))
 
 -- the same of a result that has what is kept and the tokens behind it
-abbrev pub Reads : {T M : Type 0} → (Grown T → M → Type 0) → Result (Grown T × Bor (List Token)) ParseError → (ℕ → ℕ → Reading M) → Type 0
+abbrev pub Reads : {T M : Type 0} → (Grown T → M → Type 0) → Result (Grown T × Bor (List Token)) ParseError
+    → (ℕ → ℕ → Reading M) → Type 0
 Reads Fits (Ok x) f = Kept Fits x.0 (toks x.1.now) f
 Reads Fits (Err e) f = Fails e f
 
@@ -49,6 +51,7 @@ pub record KeptWhole {T M : Type 0} (Fits : Grown T → M → Type 0) (g : Grown
   pub fit : Fits g whole
   pub comes : Comes f (Some whole)
 
-abbrev pub ReadsAll : {T M : Type 0} → (Grown T → M → Type 0) → Result (Grown T) ParseError → (ℕ → ℕ → Option M) → Type 0
+abbrev pub ReadsAll : {T M : Type 0} → (Grown T → M → Type 0) → Result (Grown T) ParseError → (ℕ → ℕ → Option M)
+    → Type 0
 ReadsAll Fits (Ok g) f = KeptWhole Fits g f
 ReadsAll Fits (Err e) f = Fails e f

@@ -166,7 +166,8 @@ start_at _ = None
 
 -- `csv` or `text/csv` between quotes, in any ASCII case
 abbrev pub is_csv : List ℕ → Bool
-is_csv w = bytes_eq (map to_ascii_lowercase w) (codes "\"csv\"") || bytes_eq (map to_ascii_lowercase w) (codes "\"text/csv\"")
+is_csv w = bytes_eq (map to_ascii_lowercase w) (codes "\"csv\"") || bytes_eq (map to_ascii_lowercase w)
+    (codes "\"text/csv\"")
 
 unfoldable pub format_at : List Tok → Option (List Tok)
 format_at (word words.Csv ∷ ts) = Some ts

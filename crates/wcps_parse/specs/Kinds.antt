@@ -64,8 +64,11 @@ abbrev pub Joins : {A B C G : Type 0} → (A → B → C) → (A → Type 0) →
 Joins f P Q Fits g = (a : _) (b : _) → P a → Q b → Fits g (f a b)
 
 -- what is kept of a condenser, where this is kept of its iterators, its condition and its body
-abbrev pub FitCondense : Aggregate → Grown (Vec Iter Global) → Grown (Option (Box Expr Global)) → Grown (Box Expr Global) → Grown (Box Expr Global) → Type 0
-FitCondense op iterators condition body g = (is : List NamedInterval) → FitIters iterators is → Joins (tree.condense op (iters_from is)) (FitCondition condition) (FitTree body) FitTree g
+abbrev pub FitCondense : Aggregate → Grown (Vec Iter Global) → Grown (Option (Box Expr Global))
+    → Grown (Box Expr Global) → Grown (Box Expr Global) → Type 0
+FitCondense op iterators condition body g =
+    (is : List NamedInterval) → FitIters iterators is
+    → Joins (tree.condense op (iters_from is)) (FitCondition condition) (FitTree body) FitTree g
 
 -- a query with these bindings
 abbrev pub query_of : List Binding → Condition → ItemTree → QueryTree

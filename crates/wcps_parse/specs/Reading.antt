@@ -1,5 +1,5 @@
--- Reading tokens from left to right. Each function answers what was read and the tokens behind it. A reader of expressions
--- is passed where expressions stand inside; the number `m` bounds how often a loop goes round.
+-- Reading tokens from left to right. Each function answers what was read and the tokens behind it. A reader of
+-- expressions is passed where expressions stand inside; the number `m` bounds how often a loop goes round.
 use Rattle.std.specs.Prelude.{ℕ, zero, suc, ◌-◌, List, [], ◌∷◌, ◌++◌, Option, Some, None}
 use Rattle.wcps_text.specs.declared.token.Symbol.{Symbol}
 use Rattle.wcps_text.specs.declared.token.Symbol.TheVariants as signs
@@ -43,7 +43,8 @@ iters_from (i ∷ is) = iter i.0 i.1 i.2 (iters_from is)
 -- more things behind those in front, each behind a separator
 unfoldable pub more : {A : Type 0} → Symbol → (List Tok → Reading A) → ℕ → List A → List Tok → Reading (List A)
 more s f zero front ts = None
-more s f (suc m) front ts = choose (sign_at s ts) (Some (front, ts)) (λ next. f next >>= λ x. more s f m (front ++ x.0 ∷ []) x.1)
+more s f (suc m) front ts = choose (sign_at s ts) (Some (front, ts))
+    (λ next. f next >>= λ x. more s f m (front ++ x.0 ∷ []) x.1)
 
 -- things with a separator between them
 unfoldable pub separated : {A : Type 0} → Symbol → (List Tok → Reading A) → ℕ → List Tok → Reading (List A)
@@ -57,7 +58,8 @@ in_parens l ts = sign_at signs.LeftParen ts >>= λ mid. enclosed l mid
 
 unfoldable pub bit : Reader → List Tok → Reading Tree
 bit l ts =
-    sign_at signs.LeftParen ts >>= λ start. l max_rank start >>= λ a. sign_at signs.Comma a.1 >>= λ mid. enclosed l mid >>= λ b.
+    sign_at signs.LeftParen ts >>= λ start. l max_rank start >>= λ a. sign_at signs.Comma a.1 >>= λ mid. enclosed l mid
+    >>= λ b.
     Some (tree.binary binaries.Bit a.0 b.0, b.1)
 
 unfoldable pub part_at : Reader → List Tok → Reading NamedTree
@@ -67,11 +69,13 @@ unfoldable pub parts : ℕ → Reader → List Tok → Reading (List NamedTree)
 parts m l ts = separated signs.Semicolon (part_at l) m ts
 
 unfoldable pub fields : ℕ → Reader → List Tok → Reading Tree
-fields m l ts = parts m l ts >>= λ ps. sign_at signs.RightBrace ps.1 >>= λ rest. Some (tree.parts (parts_from ps.0), rest)
+fields m l ts = parts m l ts >>= λ ps. sign_at signs.RightBrace ps.1 >>= λ rest. Some
+    (tree.parts (parts_from ps.0), rest)
 
 unfoldable pub domain : Reader → List Tok → Reading IntervalTree
 domain l ts =
-    sign_at signs.LeftParen ts >>= λ start. l max_rank start >>= λ e. sign_at signs.Comma e.1 >>= λ mid. name_at mid >>= λ a.
+    sign_at signs.LeftParen ts >>= λ start. l max_rank start >>= λ e. sign_at signs.Comma e.1 >>= λ mid. name_at mid >>=
+    λ a.
     sign_at signs.RightParen a.1 >>= λ rest. Some (tree.domain e.0 a.0, rest)
 
 unfoldable pub place : Reader → List Tok → Reading PlaceTree
@@ -86,7 +90,8 @@ interval l ts = choose (bounds_at ts) (word_at words.ImageCrsDomain ts >>= λ mi
 
 unfoldable pub sub_at : Reader → List Tok → Reading NamedPlace
 sub_at l ts =
-    name_at ts >>= λ a. sign_at signs.LeftParen a.1 >>= λ mid. place l mid >>= λ p. sign_at signs.RightParen p.1 >>= λ rest. Some ((a.0, p.0), rest)
+    name_at ts >>= λ a. sign_at signs.LeftParen a.1 >>= λ mid. place l mid >>= λ p. sign_at signs.RightParen p.1 >>=
+    λ rest. Some ((a.0, p.0), rest)
 
 unfoldable pub subs : ℕ → Reader → List Tok → Reading (List NamedPlace)
 subs m l ts = separated signs.Comma (sub_at l) m ts
@@ -116,7 +121,8 @@ coverage m l ts =
     (λ mid. l max_rank mid >>= λ e. Some (tree.coverage (iters_from is.0) e.0, e.1))
 
 unfoldable pub condition : Reader → List Tok → Reading Condition
-condition l ts = choose (word_at words.Where ts) (Some (always, ts)) (λ mid. l max_rank mid >>= λ e. Some (only e.0, e.1))
+condition l ts = choose (word_at words.Where ts) (Some (always, ts))
+    (λ mid. l max_rank mid >>= λ e. Some (only e.0, e.1))
 
 -- what follows the word `condense`
 unfoldable pub condense : ℕ → Reader → List Tok → Reading Tree
@@ -143,7 +149,8 @@ prim m l ts = start_at ts >>= λ s. begun m l s.0 s.1
 -- what follows a dot or an opening bracket
 unfoldable pub postfix : ℕ → Reader → Postfix → Tree → List Tok → Reading Tree
 postfix m l postfixes.Field e ts = name_at ts >>= λ x. Some (tree.field e x.0, x.1)
-postfix m l postfixes.Brackets e ts = subs m l ts >>= λ ss. sign_at signs.RightBracket ss.1 >>= λ rest. Some (tree.brackets e (subs_from ss.0), rest)
+postfix m l postfixes.Brackets e ts =
+    subs m l ts >>= λ ss. sign_at signs.RightBracket ss.1 >>= λ rest. Some (tree.brackets e (subs_from ss.0), rest)
 
 -- the fields and brackets behind an expression
 unfoldable pub behind : ℕ → Reader → Tree → List Tok → Reading Tree
@@ -159,12 +166,14 @@ operand m l ts = choose (prefix_at ts) (post m l ts) (λ op. l 0 op.1 >>= λ e. 
 -- operators of at most that rank and their right operands, each of which binds tighter than its operator
 unfoldable pub climb : ℕ → Reader → ℕ → Tree → List Tok → Reading Tree
 climb zero l r a ts = None
-climb (suc m) l r a ts = choose (binary_at r ts) (Some (a, ts)) (λ op. l (rank_of op.0 - 1) op.1 >>= λ b. climb m l r (tree.binary op.0 a b.0) b.1)
+climb (suc m) l r a ts = choose (binary_at r ts) (Some (a, ts))
+    (λ op. l (rank_of op.0 - 1) op.1 >>= λ b. climb m l r (tree.binary op.0 a b.0) b.1)
 
 unfoldable pub expression : ℕ → Reader → ℕ → List Tok → Reading Tree
 expression m l r ts = operand m l ts >>= λ a. climb m l r a.0 a.1
 
--- an expression with no operator looser than the rank; the first number bounds how deep expressions stand in one another
+-- an expression with no operator looser than the rank; the first number bounds how deep expressions stand in one
+-- another
 unfoldable pub level : ℕ → ℕ → List Tok → Reading Tree
 level zero r ts = None
 level (suc n) r ts = expression n (level n) r ts
@@ -187,7 +196,8 @@ at_end a (t ∷ ts) = None
 
 unfoldable pub encoded : Reader → List Tok → Option ItemTree
 encoded l ts =
-    sign_at signs.LeftParen ts >>= λ start. l max_rank start >>= λ e. sign_at signs.Comma e.1 >>= λ a. format_at a >>= λ b.
+    sign_at signs.LeftParen ts >>= λ start. l max_rank start >>= λ e. sign_at signs.Comma e.1 >>= λ a. format_at a >>=
+    λ b.
     sign_at signs.RightParen b >>= λ rest. at_end (tree.encode e.0) rest
 
 unfoldable pub item : Reader → List Tok → Option ItemTree
@@ -195,5 +205,6 @@ item l ts = choose (word_at words.Encode ts) (l max_rank ts >>= λ e. at_end (tr
 
 unfoldable pub query : ℕ → ℕ → Reader → List Tok → Option QueryTree
 query n m l ts =
-    word_at words.For ts >>= λ start. bindings n m start >>= λ bs. condition l bs.1 >>= λ c. word_at words.Return c.1 >>= λ mid. item l mid >>= λ i.
+    word_at words.For ts >>= λ start. bindings n m start >>= λ bs. condition l bs.1 >>= λ c. word_at words.Return c.1
+    >>= λ mid. item l mid >>= λ i.
     Some (record { bindings = bs.0; condition = c.0; item = i })

@@ -163,8 +163,8 @@ pub fn prefix_at<'t, 'a>(tokens: &'t [Token<'a>]) -> Option<(UnaryOperator, &'t 
     }
 }
 
-/// How loosely an operator binds: `* /`, then `+ -`, then comparisons, then `and`, then `or xor`; 0 if it is no operator
-/// between operands.
+/// How loosely an operator binds: `* /`, then `+ -`, then comparisons, then `and`, then `or xor`; 0 if it is no
+/// operator between operands.
 pub fn rank_of(op: BinaryOperator) -> u8
     ensures { result ≡ rank_of op }
 {

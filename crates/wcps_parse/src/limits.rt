@@ -1,7 +1,7 @@
 //! How deep a query may be before its syntax is looked at: so many brackets open at once, and so many of the words
 //! `condense` and `coverage`. So reading, which goes down at brackets and at these words, stays on the stack.
 
-ghost use Rattle.std.specs.Prelude.{◌≤◌, ◌<◌, ◌↔◌, ◌⊎◌, IsTrue};
+ghost use Rattle.std.specs.Prelude.{◌<◌, ◌↔◌, ◌⊎◌, IsTrue};
 ghost use Rattle.wcps_text.specs.Token.{toks};
 ghost use Rattle.wcps_text.specs.Limits.{max_depth, max_forms, deepest, forms};
 ghost use Rattle.wcps_parse.specs.Marks.{Opens, Closes, BeginsForm};

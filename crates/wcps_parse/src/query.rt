@@ -10,7 +10,7 @@ ghost use Rattle.wcps_text.specs.Grammar.{IsSpelled};
 ghost use Rattle.wcps_parse.specs.Reading.{level, names, binding_at, bindings, encoded, item, query};
 ghost use Rattle.wcps_parse.specs.Fit.{Gives, ReadsAll};
 ghost use Rattle.wcps_parse.specs.Kinds.{FitItem, FitQuery};
-ghost use Rattle.wcps_parse.specs.Outcome.{IsWithinLimits, IsTooHigh, IsTooDeep};
+ghost use Rattle.wcps_parse.specs.Outcome.{IsWithinLimits, IsTooDeep};
 ghost use Rattle.wcps_parse.specs.declared.error.ParseError.TheVariants.{BadSyntax, TooDeep};
 
 use crate::error::ParseError;

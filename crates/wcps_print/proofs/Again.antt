@@ -13,7 +13,7 @@ use Rattle.wcps_text.specs.declared.tree.ListItem.{ListItem}
 use Rattle.wcps_text.specs.declared.tree.ListItem.TheVariants as list_items
 use Rattle.wcps_text.specs.Token.{Tok, number, name, word, sign}
 use Rattle.wcps_text.specs.Tree as tree
-use Rattle.wcps_text.specs.Tree.{Tree, Parts, no_parts, part, Subs, no_subs, sub, PlaceTree, trim, at, IntervalTree, bounds, domain, Iters, no_iters, iter, Condition, always, only, BindingTree, ItemTree, encode, plain, QueryTree}
+use Rattle.wcps_text.specs.Tree.{Tree, Parts, Subs, PlaceTree, IntervalTree, Iters, Condition, BindingTree, ItemTree, QueryTree}
 use Rattle.arr_core.specs.Keywords.{IsWritten, is_keyword}
 use Rattle.arr_core.proofs.Keywords.{unwritten}
 use Rattle.wcps_text.specs.Number.{max_number}

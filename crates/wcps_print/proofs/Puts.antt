@@ -1,10 +1,9 @@
 -- Text that is written a token at a time.
-use Rattle.std.proofs.Common.{◌≡◌, ◌==◌, ℕ, Bool, true, false, cond, ℤ, pos, negsuc, ◌<ℤ◌, ◌≤ℤ◌, unsigned_abs, List, [], ◌∷◌, ◌++◌, get_or, Result, Ok, Err, refl, ap, ◌∙◌, append_assoc, append-nil, arith}
+use Rattle.std.proofs.Common.{◌≡◌, ◌==◌, ℕ, Bool, true, false, cond, List, [], ◌∷◌, ◌++◌, get_or, Result, Ok, Err, refl, ap, ◌∙◌, append_assoc, append-nil}
 use Rattle.std.specs.Result.{OnOk}
-use Rattle.std.proofs.lemmas.Int.{ints}
 use Rattle.wcps_text.specs.declared.token.Symbol.TheVariants as signs
-use Rattle.wcps_text.specs.Token.{Tok, number, name, dollar, sign}
-use Rattle.wcps_print.specs.Printing.{bytes_of, text_of, name_token, int_tokens, Puts}
+use Rattle.wcps_text.specs.Token.{Tok, name, dollar}
+use Rattle.wcps_print.specs.Printing.{bytes_of, text_of, name_token, Puts}
 
 pub put_token : (t : Tok) (before after text : List ℕ) → text ≡ bytes_of t → after ≡ (before ++ text) ++ 32 ∷ [] → Puts before (λ rest. t ∷ rest) after
 unfolding text_of
@@ -19,15 +18,6 @@ bytes_of_name x = chosen (get_or x 0 0 == 36)
     chosen : (b : Bool) → x ≡ bytes_of (cond b (dollar x) (name x))
     chosen true = refl
     chosen false = refl
-
--- a negative number
-pub int_below : (z : ℤ) (rest : List Tok) → z <ℤ pos 0 → sign signs.Minus ∷ number (unsigned_abs z) ∷ rest ≡ int_tokens z rest
-int_below (pos n) rest lt = absurd (omega (arith, ints))
-int_below (negsuc n) rest lt = refl
-
-pub int_above : (z : ℤ) (rest : List Tok) → pos 0 ≤ℤ z → number (unsigned_abs z) ∷ rest ≡ int_tokens z rest
-int_above (pos n) rest le = refl
-int_above (negsuc n) rest le = absurd (omega (arith, ints))
 
 -- what follows where a call succeeds
 pub on_ok : {A E P Q : Type 0} (r : Result A E) → (P → Q) → OnOk r P → OnOk r Q

@@ -11,8 +11,8 @@ pub record IsTextOf (text : List ℕ) (q : QueryTree) : Type 0 where
   pub lexed : Lexed 0 text pieces
   pub spelled : IsSpelled (tokens_of pieces) q
 
--- the same within the limits of a query: of the brackets that are open at once, of the words `condense` and `coverage`, and
--- of the height of its expressions
+-- the same within the limits of a query: of the brackets that are open at once, of the words `condense` and `coverage`,
+-- and of the height of its expressions
 pub record IsTextWithin (text : List ℕ) (q : QueryTree) : Type 0 where
   pub pieces : List Piece
   pub lexed : Lexed 0 text pieces

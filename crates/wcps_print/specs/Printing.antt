@@ -1,4 +1,5 @@
--- The tokens of a printed query, and how they are written. Each function gives the tokens of its thing, and then the rest.
+-- The tokens of a printed query, and how they are written. Each function gives the tokens of its thing, and then the
+-- rest.
 use Rattle.std.specs.Prelude.{◌≡◌, ℕ, suc, Option, Box, ℤ, pos, negsuc, List, [], ◌∷◌, ◌++◌, Bool, true, false, cond, ◌==◌, codes, get_or, decimal, String, string_bytes}
 use Rattle.std.specs.Global.{Global}
 use Rattle.wcps_text.specs.declared.token.Symbol.{Symbol}
@@ -68,7 +69,8 @@ unary_token unaries.Absolute = word words.Abs
 
 -- an operator between two operands in parentheses
 abbrev pub between_tokens : BinaryOperator → (List Tok → List Tok) → (List Tok → List Tok) → List Tok → List Tok
-between_tokens op a b rest = sign signs.LeftParen ∷ a (sign signs.RightParen ∷ binary_token op ∷ sign signs.LeftParen ∷ b (sign signs.RightParen ∷ rest))
+between_tokens op a b rest = sign signs.LeftParen ∷ a
+    (sign signs.RightParen ∷ binary_token op ∷ sign signs.LeftParen ∷ b (sign signs.RightParen ∷ rest))
 
 abbrev pub bit_tokens : (List Tok → List Tok) → (List Tok → List Tok) → List Tok → List Tok
 bit_tokens a b rest = word words.Bit ∷ sign signs.LeftParen ∷ a (sign signs.Comma ∷ b (sign signs.RightParen ∷ rest))
@@ -111,8 +113,10 @@ condenser op is c e = tree.condense op (iters_of is) (condition_of c) (view e)
 -- things with a separator before each, but before the first one only where it is not the first
 unfoldable pub items_tokens : Bool → List ListItem → List Tok → List Tok
 items_tokens first [] rest = rest
-items_tokens first (list_items.Int z ∷ xs) rest = separator first signs.Semicolon (int_tokens z (items_tokens false xs rest))
-items_tokens first (list_items.Truth b ∷ xs) rest = separator first signs.Semicolon (word (truth_word b) ∷ items_tokens false xs rest)
+items_tokens first (list_items.Int z ∷ xs) rest =
+    separator first signs.Semicolon (int_tokens z (items_tokens false xs rest))
+items_tokens first (list_items.Truth b ∷ xs) rest =
+    separator first signs.Semicolon (word (truth_word b) ∷ items_tokens false xs rest)
 
 -- what stands before the values of a coverage
 abbrev pub head_tokens : List Tok → List Tok
@@ -123,23 +127,37 @@ unfoldable mutual
   expr_tokens (tree.number n) rest = number n ∷ rest
   expr_tokens (tree.truth b) rest = word (truth_word b) ∷ rest
   expr_tokens (tree.variable x) rest = name_token x ∷ rest
-  expr_tokens (tree.unary op e) rest = unary_token op ∷ sign signs.LeftParen ∷ expr_tokens e (sign signs.RightParen ∷ rest)
+  expr_tokens (tree.unary op e) rest =
+      unary_token op ∷ sign signs.LeftParen ∷ expr_tokens e (sign signs.RightParen ∷ rest)
   expr_tokens (tree.binary op a b) rest = binary_tokens op (expr_tokens a) (expr_tokens b) rest
-  expr_tokens (tree.reduce op e) rest = reduce_token op ∷ sign signs.LeftParen ∷ expr_tokens e (sign signs.RightParen ∷ rest)
+  expr_tokens (tree.reduce op e) rest =
+      reduce_token op ∷ sign signs.LeftParen ∷ expr_tokens e (sign signs.RightParen ∷ rest)
   expr_tokens (tree.parts ps) rest = sign signs.LeftBrace ∷ parts_tokens true ps (sign signs.RightBrace ∷ rest)
-  expr_tokens (tree.value_list is xs) rest = head_tokens (iters_tokens true is (word words.Value ∷ word words.List ∷ sign signs.Less ∷ items_tokens true xs (sign signs.Greater ∷ rest)))
-  expr_tokens (tree.field e x) rest = sign signs.LeftParen ∷ expr_tokens e (sign signs.RightParen ∷ sign signs.Dot ∷ name_token x ∷ rest)
-  expr_tokens (tree.brackets e ss) rest = sign signs.LeftParen ∷ expr_tokens e (sign signs.RightParen ∷ sign signs.LeftBracket ∷ subs_tokens true ss (sign signs.RightBracket ∷ rest))
-  expr_tokens (tree.coverage is e) rest = head_tokens (iters_tokens true is (word words.Values ∷ sign signs.LeftParen ∷ expr_tokens e (sign signs.RightParen ∷ rest)))
-  expr_tokens (tree.condense op is c e) rest = word words.Condense ∷ condense_token op ∷ word words.Over ∷ iters_tokens true is (condition_tokens c (word words.Using ∷ sign signs.LeftParen ∷ expr_tokens e (sign signs.RightParen ∷ rest)))
+  expr_tokens (tree.value_list is xs) rest =
+      head_tokens (iters_tokens true is
+      (word words.Value ∷ word words.List ∷ sign signs.Less ∷ items_tokens true xs (sign signs.Greater ∷ rest)))
+  expr_tokens (tree.field e x) rest =
+      sign signs.LeftParen ∷ expr_tokens e (sign signs.RightParen ∷ sign signs.Dot ∷ name_token x ∷ rest)
+  expr_tokens (tree.brackets e ss) rest =
+      sign signs.LeftParen ∷ expr_tokens e
+      (sign signs.RightParen ∷ sign signs.LeftBracket ∷ subs_tokens true ss (sign signs.RightBracket ∷ rest))
+  expr_tokens (tree.coverage is e) rest =
+      head_tokens (iters_tokens true is
+      (word words.Values ∷ sign signs.LeftParen ∷ expr_tokens e (sign signs.RightParen ∷ rest)))
+  expr_tokens (tree.condense op is c e) rest =
+      word words.Condense ∷ condense_token op ∷ word words.Over ∷ iters_tokens true is
+      (condition_tokens c (word words.Using ∷ sign signs.LeftParen ∷ expr_tokens e (sign signs.RightParen ∷ rest)))
 
   pub parts_tokens : Bool → Parts → List Tok → List Tok
   parts_tokens first no_parts rest = rest
-  parts_tokens first (part x e ps) rest = separator first signs.Semicolon (name_token x ∷ sign signs.Colon ∷ expr_tokens e (parts_tokens false ps rest))
+  parts_tokens first (part x e ps) rest =
+      separator first signs.Semicolon (name_token x ∷ sign signs.Colon ∷ expr_tokens e (parts_tokens false ps rest))
 
   pub subs_tokens : Bool → Subs → List Tok → List Tok
   subs_tokens first no_subs rest = rest
-  subs_tokens first (sub a p ss) rest = separator first signs.Comma (name_token a ∷ sign signs.LeftParen ∷ place_tokens p (sign signs.RightParen ∷ subs_tokens false ss rest))
+  subs_tokens first (sub a p ss) rest =
+      separator first signs.Comma (name_token a ∷ sign signs.LeftParen ∷ place_tokens p
+      (sign signs.RightParen ∷ subs_tokens false ss rest))
 
   pub place_tokens : PlaceTree → List Tok → List Tok
   place_tokens (trim i) rest = interval_tokens i rest
@@ -147,16 +165,21 @@ unfoldable mutual
 
   pub interval_tokens : IntervalTree → List Tok → List Tok
   interval_tokens (bounds lo hi) rest = int_tokens lo (sign signs.Colon ∷ int_tokens hi rest)
-  interval_tokens (domain e a) rest = word words.ImageCrsDomain ∷ sign signs.LeftParen ∷ expr_tokens e (sign signs.Comma ∷ name_token a ∷ sign signs.RightParen ∷ rest)
+  interval_tokens (domain e a) rest =
+      word words.ImageCrsDomain ∷ sign signs.LeftParen ∷ expr_tokens e
+      (sign signs.Comma ∷ name_token a ∷ sign signs.RightParen ∷ rest)
 
   pub iters_tokens : Bool → Iters → List Tok → List Tok
   iters_tokens first no_iters rest = rest
-  iters_tokens first (iter v a i is) rest = separator first signs.Comma (name_token v ∷ name_token a ∷ sign signs.LeftParen ∷ interval_tokens i (sign signs.RightParen ∷ iters_tokens false is rest))
+  iters_tokens first (iter v a i is) rest =
+      separator first signs.Comma (name_token v ∷ name_token a ∷ sign signs.LeftParen ∷ interval_tokens i
+      (sign signs.RightParen ∷ iters_tokens false is rest))
 
   -- nothing, or `where` and the condition in parentheses
   pub condition_tokens : Condition → List Tok → List Tok
   condition_tokens always rest = rest
-  condition_tokens (only c) rest = word words.Where ∷ sign signs.LeftParen ∷ expr_tokens c (sign signs.RightParen ∷ rest)
+  condition_tokens (only c) rest =
+      word words.Where ∷ sign signs.LeftParen ∷ expr_tokens c (sign signs.RightParen ∷ rest)
 
 unfoldable pub names_tokens : Bool → List (List ℕ) → List Tok → List Tok
 names_tokens first [] rest = rest
@@ -164,15 +187,19 @@ names_tokens first (x ∷ xs) rest = separator first signs.Comma (name_token x �
 
 unfoldable pub bindings_tokens : Bool → List BindingTree → List Tok → List Tok
 bindings_tokens first [] rest = rest
-bindings_tokens first (b ∷ bs) rest = separator first signs.Comma (name_token b.variable ∷ word words.In ∷ sign signs.LeftParen ∷ names_tokens true b.coverages (sign signs.RightParen ∷ bindings_tokens false bs rest))
+bindings_tokens first (b ∷ bs) rest =
+    separator first signs.Comma (name_token b.variable ∷ word words.In ∷ sign signs.LeftParen ∷ names_tokens true
+    b.coverages (sign signs.RightParen ∷ bindings_tokens false bs rest))
 
 -- an expression that is returned encoded
 abbrev pub encoded_tokens : Tree → List Tok → List Tok
-encoded_tokens e rest = word words.Encode ∷ sign signs.LeftParen ∷ expr_tokens e (sign signs.Comma ∷ word words.Csv ∷ sign signs.RightParen ∷ rest)
+encoded_tokens e rest = word words.Encode ∷ sign signs.LeftParen ∷ expr_tokens e
+    (sign signs.Comma ∷ word words.Csv ∷ sign signs.RightParen ∷ rest)
 
 unfoldable pub item_tokens : ItemTree → List Tok → List Tok
 item_tokens (encode e) rest = encoded_tokens e rest
 item_tokens (plain e) rest = expr_tokens e rest
 
 unfoldable pub query_tokens : QueryTree → List Tok
-query_tokens q = word words.For ∷ bindings_tokens true q.bindings (condition_tokens q.condition (word words.Return ∷ item_tokens q.item []))
+query_tokens q = word words.For ∷ bindings_tokens true q.bindings
+    (condition_tokens q.condition (word words.Return ∷ item_tokens q.item []))

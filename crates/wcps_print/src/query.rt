@@ -14,8 +14,8 @@ use wcps_text::{Binding, Expr, Item, Query, QueryName, Symbol};
 /// The query as text, every operand in parentheses.
 ///
 /// If the tokens of some text spell the query, as they do of any query that was parsed, then the printed text has
-/// tokens, and they spell the same query; and where that text is within the limits of a query, so is the printed one, which
-/// a parser then takes. It calls itself as deep as the query is high. The only error is want of memory.
+/// tokens, and they spell the same query; and where that text is within the limits of a query, so is the printed one,
+/// which a parser then takes. It calls itself as deep as the query is high. The only error is want of memory.
 pub fn print(alloc: Global, query: &Query) -> Result<String, AllocError>
     ensures spelled { IfOk result (λ printed. Inherits IsTextOf (query_view query.now) (string_bytes printed)) }
     ensures within { IfOk result (λ printed. Inherits IsTextWithin (query_view query.now) (string_bytes printed)) }

@@ -1,6 +1,6 @@
 //! Single tokens, a space behind each: so the text is cut into just these tokens again.
 
-ghost use Rattle.std.specs.Prelude.{◌≡◌, ◌++◌, ◌∷◌, ◌<◌, ◌^◌, [], codes, string_bytes, OnOk};
+ghost use Rattle.std.specs.Prelude.{◌≡◌, ◌++◌, ◌∷◌, ◌<◌, [], codes, string_bytes, OnOk};
 ghost use Rattle.wcps_text.specs.Grammar.{binary_token, truth_word};
 ghost use Rattle.wcps_text.specs.Token as tokens;
 ghost use Rattle.wcps_text.specs.Token.{sign, word};

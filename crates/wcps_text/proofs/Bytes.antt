@@ -1,5 +1,5 @@
 -- Runs of bytes, and where they end.
-use Rattle.std.proofs.Common.{◌≡◌, ℕ, zero, suc, ◌+◌, ◌-◌, ◌*◌, ◌<◌, ◌≤◌, Bool, false, IsTrue, List, [], ◌∷◌, length, take, drop, get_or, refl, ap, ◌∙◌, arith, drop-cons, ◌⊎◌, inl, inr, ⊎_elim, subst}
+use Rattle.std.proofs.Common.{◌≡◌, ℕ, zero, suc, ◌+◌, ◌-◌, ◌*◌, ◌<◌, ◌≤◌, Bool, IsTrue, List, [], ◌∷◌, length, take, drop, get_or, ◌∙◌, arith, drop-cons, subst}
 use Rattle.std.specs.Str.{IsUtf8, IsCharBoundary}
 use Rattle.std.proofs.lemmas.Str.{IsCharBoundary-after_ascii}
 use Rattle.std.proofs.lemmas.List.{get_or-take, get_or-drop}
@@ -13,11 +13,6 @@ every_suc p (b ∷ bs) (suc i) d lt e h = (e.0, every_suc p bs i d (omega arith)
 
 pub every_more : (p : ℕ → Bool) (bs : List ℕ) (i j d : ℕ) → j ≡ suc i → i < length bs → Every p (take i bs) → IsTrue (p (get_or bs i d)) → Every p (take j bs)
 every_more p bs i j d q lt e h = rw q (every_suc p bs i d lt e h)
-
-pub stops_at : (p : ℕ → Bool) (bs : List ℕ) (i d : ℕ) → i < length bs → p (get_or bs i d) ≡ false → Stops p (drop i bs)
-stops_at p [] i d lt h = absurd (omega arith)
-stops_at p (b ∷ bs) zero d lt h = h
-stops_at p (b ∷ bs) (suc i) d lt h = stops_at p bs i d (omega arith) h
 
 pub stops_end : (p : ℕ → Bool) (bs : List ℕ) (i : ℕ) → length bs ≤ i → Stops p (drop i bs)
 stops_end p [] zero le = tt
@@ -33,12 +28,6 @@ decimal_grows n (d ∷ ds) = let more = decimal_grows (n * 10 + (d - 48)) ds in 
 pub too_large : (ds : List ℕ) (i d n : ℕ) → i < length ds → 9223372036854775808 ≤ n * 10 + (get_or ds i d - 48) → 9223372036854775808 ≤ decimal_from n (drop i ds)
 too_large ds i d n lt h =
     rw (drop-cons ds i d lt) (omega (arith, h, decimal_grows (n * 10 + (get_or ds i d - 48)) (drop (suc i) ds)))
-
-pub last_or : (a b : ℕ) → a < b + 1 → (a < b) ⊎ (a ≡ b)
-last_or zero zero lt = inr refl
-last_or zero (suc b) lt = inl (omega arith)
-last_or (suc a) zero lt = absurd (omega arith)
-last_or (suc a) (suc b) lt = ⊎_elim (λ h. inl (omega arith)) (λ same. inr (ap suc same)) (last_or a b (omega arith))
 
 -- a text may be cut behind an ASCII byte
 pub cut_behind : (bs : List ℕ) (s n : ℕ) → IsUtf8 bs → s < length bs → 0 < n → n ≤ length bs - s → get_or (take (length bs - s) (drop s bs)) (n - 1) 0 < 128 → IsCharBoundary bs (s + n)

@@ -1,5 +1,5 @@
 -- Which tokens can stand at the front of a text, by its first byte.
-use Rattle.std.proofs.Common.{◌≡◌, ◌≢◌, ◌==◌, ⊎_elim, ℕ, zero, suc, ◌+◌, ◌-◌, ◌<◌, ◌≤◌, ◌^◌, Bool, true, false, cond, List, [], ◌∷◌, ◌++◌, length, take, drop, get_or, Option, Some, None, Result, Ok, refl, sym, ap, ◌∙◌, arith, subst, append_assoc}
+use Rattle.std.proofs.Common.{◌≡◌, ◌≢◌, ◌==◌, ⊎_elim, ℕ, zero, suc, ◌+◌, ◌-◌, ◌<◌, ◌≤◌, Bool, true, false, cond, List, [], ◌∷◌, ◌++◌, length, take, drop, get_or, Option, Some, None, Result, Ok, refl, sym, ap, ◌∙◌, arith, subst, append_assoc}
 use Rattle.std.proofs.lemmas.Bool.Decides.{nat_tests, eqb_tells}
 use Rattle.std.proofs.lemmas.Option.{none-some}
 use Rattle.std.proofs.lemmas.List.{take-append-drop, length-take-le, length-append, take_rest}
@@ -36,9 +36,6 @@ digit_alone b low high = grind (arith, nat_tests)
 
 letter_alone : (b : ℕ) → 65 ≤ b → double b ≡ None
 letter_alone b low = grind (arith, nat_tests)
-
-digit_no_space : (b : ℕ) → 48 ≤ b → is_space b ≡ false
-digit_no_space b low = grind (arith, nat_tests)
 
 -- bytes of one kind at the front are no more than those before the first of another kind
 run_bound : (p : ℕ → Bool) (v us : List ℕ) (n : ℕ) → Every p v → Stops p (drop n (v ++ us)) → length v ≤ n

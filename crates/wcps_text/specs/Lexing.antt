@@ -40,11 +40,27 @@ decimal ds = decimal_from 0 ds
 
 -- the symbol that a byte is alone: ( ) [ ] { } , ; : . < > = + - * /
 abbrev pub single : ℕ → Option Symbol
-single b = cond (b == 40) (Some signs.LeftParen) (cond (b == 41) (Some signs.RightParen) (cond (b == 91) (Some signs.LeftBracket) (cond (b == 93) (Some signs.RightBracket) (cond (b == 123) (Some signs.LeftBrace) (cond (b == 125) (Some signs.RightBrace) (cond (b == 44) (Some signs.Comma) (cond (b == 59) (Some signs.Semicolon) (cond (b == 58) (Some signs.Colon) (cond (b == 46) (Some signs.Dot) (cond (b == 60) (Some signs.Less) (cond (b == 62) (Some signs.Greater) (cond (b == 61) (Some signs.Equal) (cond (b == 43) (Some signs.Plus) (cond (b == 45) (Some signs.Minus) (cond (b == 42) (Some signs.Star) (cond (b == 47) (Some signs.Slash) None))))))))))))))))
+single b = cond (b == 40) (Some signs.LeftParen)
+    (cond (b == 41) (Some signs.RightParen)
+    (cond (b == 91) (Some signs.LeftBracket)
+    (cond (b == 93) (Some signs.RightBracket)
+    (cond (b == 123) (Some signs.LeftBrace)
+    (cond (b == 125) (Some signs.RightBrace)
+    (cond (b == 44) (Some signs.Comma)
+    (cond (b == 59) (Some signs.Semicolon)
+    (cond (b == 58) (Some signs.Colon)
+    (cond (b == 46) (Some signs.Dot)
+    (cond (b == 60) (Some signs.Less)
+    (cond (b == 62) (Some signs.Greater)
+    (cond (b == 61) (Some signs.Equal)
+    (cond (b == 43) (Some signs.Plus)
+    (cond (b == 45) (Some signs.Minus)
+    (cond (b == 42) (Some signs.Star) (cond (b == 47) (Some signs.Slash) None))))))))))))))))
 
 -- the symbol that a byte is together with `=` behind it: <= >= !=
 abbrev pub double : ℕ → Option Symbol
-double b = cond (b == 60) (Some signs.LessEqual) (cond (b == 62) (Some signs.GreaterEqual) (cond (b == 33) (Some signs.NotEqual) None))
+double b = cond (b == 60) (Some signs.LessEqual)
+    (cond (b == 62) (Some signs.GreaterEqual) (cond (b == 33) (Some signs.NotEqual) None))
 
 -- the bytes of a symbol
 abbrev pub symbol_text : Symbol → List ℕ
@@ -112,14 +128,18 @@ tokens_of pieces = map (λ (p : Piece). p.is) pieces
 -- The text, whose first byte is at that place, has these tokens. Spaces between them leave no trace.
 pub data Lexed : ℕ → List ℕ → List Piece → Type 0 where
   at_end : {at : ℕ} → Lexed at [] []
-  past_space : {at c : ℕ} {text : List ℕ} {ps : List Piece} → IsTrue (is_space c) → Lexed (at + 1) text ps → Lexed at (c ∷ text) ps
-  past_token : {at : ℕ} {text w rest : List ℕ} {t : Tok} {ps : List Piece} → IsLongest w (Ok t) rest text → Lexed (at + length w) rest ps
+  past_space : {at c : ℕ} {text : List ℕ} {ps : List Piece} → IsTrue (is_space c) → Lexed (at + 1) text ps
+      → Lexed at (c ∷ text) ps
+  past_token : {at : ℕ} {text w rest : List ℕ} {t : Tok} {ps : List Piece} → IsLongest w (Ok t) rest text
+      → Lexed (at + length w) rest ps
       → Lexed at text (record { start = at; bytes = w; is = t } ∷ ps)
 
 -- The text has no tokens: this is wrong with the first bytes that are none.
 pub data Refused : List ℕ → LexError → Type 0 where
   behind_space : {c : ℕ} {text : List ℕ} {e : LexError} → IsTrue (is_space c) → Refused text e → Refused (c ∷ text) e
-  behind_token : {text w rest : List ℕ} {t : Tok} {e : LexError} → IsLongest w (Ok t) rest text → Refused rest e → Refused text e
+  behind_token : {text w rest : List ℕ} {t : Tok} {e : LexError} → IsLongest w (Ok t) rest text → Refused rest e
+      → Refused text e
   no_token : {text w rest : List ℕ} {e : LexError} → IsLongest w (Err e) rest text → Refused text e
-  no_form : {c : ℕ} {text : List ℕ} → (IsTrue (is_space c) → ⊥) → ((v us : List ℕ) (q : Result Tok LexError) → Reads v q → c ∷ text ≡ v ++ us → ⊥)
+  no_form : {c : ℕ} {text : List ℕ} → (IsTrue (is_space c) → ⊥)
+      → ((v us : List ℕ) (q : Result Tok LexError) → Reads v q → c ∷ text ≡ v ++ us → ⊥)
       → Refused (c ∷ text) errors.BadToken

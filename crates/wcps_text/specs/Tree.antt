@@ -147,4 +147,9 @@ item_view (items.Encode e) = encode (view e.value)
 item_view (items.Plain e) = plain (view e.value)
 
 abbrev pub query_view : Query → QueryTree
-query_view q = record { bindings = bindings_of q.bindings.items; condition = condition_of q.condition; item = item_view q.item }
+query_view q = record {
+  bindings = bindings_of q.bindings.items;
+  condition = condition_of q.condition;
+  item =
+      item_view q.item;
+}

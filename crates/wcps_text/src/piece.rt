@@ -1,6 +1,6 @@
 //! What the first bytes of a text are: how many belong to the token, and what it is.
 
-ghost use Rattle.std.specs.Prelude.{◌≡◌, ◌==◌, cond, None, ◌+◌, ◌-◌, ◌<◌, ◌≤◌, length, take, drop, get_or, IfOk, MatchResult, IsTrue};
+ghost use Rattle.std.specs.Prelude.{◌≡◌, ◌==◌, cond, None, ◌+◌, ◌-◌, ◌<◌, ◌≤◌, length, get_or, IfOk, MatchResult, IsTrue};
 ghost use Rattle.std.specs.Char.{is_ascii_digit};
 ghost use Rattle.wcps_text.specs.Fronts.{IsFront, IsOther};
 ghost use Rattle.wcps_text.specs.Lexing.{begins_name, double, is_space, Refused};

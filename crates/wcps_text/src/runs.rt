@@ -1,7 +1,7 @@
 //! Runs of bytes of one class.
 
 ghost use Rattle.std.specs.Prelude.{◌≡◌, ◌-◌, ◌<◌, ◌≤◌, length, take, drop, get_or, IsTrue};
-ghost use Rattle.wcps_text.specs.Lexing.{is_space, continues_name, is_quotable, Every};
+ghost use Rattle.wcps_text.specs.Lexing.{Every};
 ghost use Rattle.std.specs.Char.{is_ascii_digit};
 ghost use Rattle.wcps_text.specs.Runs.{is_of, Stops};
 

@@ -1,6 +1,6 @@
 -- Combinations of like coverages have one tree.
 use Rattle.std.proofs.Common.{◌≡◌, ℕ, zero, suc, ◌+◌, ◌<◌, ◌≤◌, Bool, true, false, ◌&&◌, get_or, drop, List, [], ◌∷◌, ◌++◌, map, length, refl, ap, sym, subst, arith, ◌∙◌, append_assoc, length-append, add-one, Vec, Global}
-use Rattle.std.specs.Prelude.{Option, Some, None, Result, option_map, slice_get, IsSomeAnd, Ok, Err}
+use Rattle.std.specs.Prelude.{Option, Some, None, Result, slice_get, IsSomeAnd, Ok, Err}
 use Rattle.std.specs.List.{list_all}
 use Rattle.std.proofs.lemmas.List.{map-append, length-map}
 use Rattle.std.proofs.Math.Seq.{drop-cons}
@@ -107,24 +107,10 @@ pub all-made : (cs : List Signature) (q : QueryTree) (variables : List Bound) (m
 all-made cs q variables [] h = refl
 all-made cs q variables (m ∷ makers) h = rw (h.0) (all-made cs q variables makers h.2)
 
--- the tree at a place
-pub tree-at : (cs : List Signature) (q : QueryTree) (variables : List Bound) (makers : List Maker) (k : ℕ) (o : Option Maker) → slice_get makers k ≡ o
-    → slice_get (trees_of cs q variables makers) k ≡ option_map (tree_of cs q variables) o
-tree-at cs q variables [] k o e = ap (option_map (tree_of cs q variables)) e
-tree-at cs q variables (m ∷ makers) zero o e = ap (option_map (tree_of cs q variables)) e
-tree-at cs q variables (m ∷ makers) (suc k) o e = tree-at cs q variables makers k o e
-
 both-true : (a b : Bool) → (a && b) ≡ true → (a ≡ true) × (b ≡ true)
 both-true true true e = (refl, refl)
 both-true true false e = absurd (cc)
 both-true false b e = absurd (cc)
-
-pub made-at : (cs : List Signature) (q : QueryTree) (variables : List Bound) (makers : List Maker) (k : ℕ) (m : Maker) → slice_get makers k ≡ Some m → list_all (makes cs q variables) makers ≡ true → makes cs q variables m ≡ true
-made-at cs q variables [] k m e h = absurd (cc)
-made-at cs q variables (d ∷ makers) zero m e h =
-    let is : d ≡ m = cc in
-    subst (λ c. makes cs q variables c ≡ true) is (both-true (makes cs q variables d) (list_all (makes cs q variables) makers) h).0
-made-at cs q variables (d ∷ makers) (suc k) m e h = made-at cs q variables makers k m e (both-true (makes cs q variables d) (list_all (makes cs q variables) makers) h).1
 
 -- combinations keep their trees
 pub views-grown : (old new : List CombinationTree) (all : List Combination) → HaveTrees (length old) all → Grows old new → map (combination_view new) all ≡ map (combination_view old) all

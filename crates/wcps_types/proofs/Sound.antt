@@ -5,7 +5,7 @@ use Rattle.arr_core.specs.declared.domain.Axis.{Axis}
 use Rattle.arr_core.specs.declared.signature.Signature.{Signature}
 use Rattle.arr_core.specs.Domains.{axis_place}
 use Rattle.wcps_text.specs.Tree as tree
-use Rattle.wcps_text.specs.Tree.{Tree, Parts, no_parts, part, Subs, no_subs, sub, PlaceTree, trim, at, IntervalTree, bounds, Iters, no_iters, iter, Condition, always, only, QueryTree, encode, plain, BindingTree}
+use Rattle.wcps_text.specs.Tree.{Tree, Parts, no_parts, part, Subs, no_subs, sub, PlaceTree, trim, at, Iters, no_iters, iter, Condition, always, only}
 use Rattle.wcps_types.specs.declared.bound.Bound.{Bound}
 use Rattle.wcps_types.specs.Shapes.{ShapeTree, then_of, only_field, only_scalar}
 use Rattle.wcps_types.specs.Brackets.{BoundsOf, BracketTree, opened, place_to_cut, position_of}

@@ -66,30 +66,39 @@ place_or None cs a = a
 
 -- a coverage that is named already has its place; another one is added at the end
 abbrev pub resolved : List Signature → List Signature → List ℕ → Answer Placed
-resolved signatures cs name = place_or (coverage_place name cs) cs (then_of (known_signature (signature_at (coverage_place name signatures) signatures)) (added cs))
+resolved signatures cs name = place_or (coverage_place name cs) cs
+    (then_of (known_signature (signature_at (coverage_place name signatures) signatures)) (added cs))
 
 -- names in turn, after those at the places so far
 abbrev pub resolved_all : List Signature → List Signature → List ℕ → List (List ℕ) → Answer PlacedAll
 resolved_all signatures cs places [] = Ok (record { coverages = cs; places = places })
 resolved_all signatures cs places (x ∷ names) =
-    then_of (resolved signatures cs x) (λ (p : Placed). resolved_all signatures p.coverages (places ++ p.place ∷ []) names)
+    then_of (resolved signatures cs x)
+    (λ (p : Placed). resolved_all signatures p.coverages (places ++ p.place ∷ []) names)
 
 -- a variable is taken
 abbrev pub is_bound : List ℕ → List ChoiceTree → Bool
 is_bound name choices = list_any (λ (c : ChoiceTree). bytes_eq c.variable name) choices
 
 abbrev pub with_choice : List ℕ → List ChoiceTree → PlacedAll → Answer BindingTrees
-with_choice variable choices p = Ok (record { coverages = p.coverages; choices = choices ++ record { variable = variable; coverages = p.places } ∷ [] })
+with_choice variable choices p =
+    Ok (record {
+      coverages = p.coverages;
+      choices =
+          choices ++ record { variable = variable; coverages = p.places } ∷ [];
+    })
 
 -- one variable more: whether it is taken, then its coverages
 abbrev pub with_binding : List Signature → BindingTrees → BindingTree → Answer BindingTrees
 with_binding signatures b t =
-    cond (is_bound t.variable b.choices) (Err NameTaken) (then_of (resolved_all signatures b.coverages [] t.coverages) (with_choice t.variable b.choices))
+    cond (is_bound t.variable b.choices) (Err NameTaken)
+    (then_of (resolved_all signatures b.coverages [] t.coverages) (with_choice t.variable b.choices))
 
 -- the list in source order
 abbrev pub bound_from : List Signature → BindingTrees → List BindingTree → Answer BindingTrees
 bound_from signatures b [] = Ok b
-bound_from signatures b (t ∷ more) = then_of (with_binding signatures b t) (λ (c : BindingTrees). bound_from signatures c more)
+bound_from signatures b (t ∷ more) =
+    then_of (with_binding signatures b t) (λ (c : BindingTrees). bound_from signatures c more)
 
 -- how many combinations there are
 abbrev pub combination_count : List ChoiceTree → ℕ
@@ -104,7 +113,8 @@ max_combinations = 64
 abbrev pub few_combinations : List ChoiceTree → Answer ℕ
 few_combinations choices =
     cond (nat_eq (combination_count choices) 0) (Err BadSyntax)
-    (cond (nat_lt max_combinations (combination_count choices)) (Err TooManyCombinations) (Ok (combination_count choices)))
+    (cond (nat_lt max_combinations (combination_count choices)) (Err TooManyCombinations)
+    (Ok (combination_count choices)))
 
 abbrev pub bound_to : List ℕ → ℕ → Bound
 bound_to variable place = record { variable = variable; coverage = place }
@@ -113,9 +123,11 @@ bound_to variable place = record { variable = variable; coverage = place }
 abbrev pub combination_at : List ChoiceTree → ℕ → List Bound
 combination_at [] n = []
 combination_at (c ∷ choices) n =
-    bound_to c.variable (slice_index c.coverages (n / combination_count choices)) ∷ combination_at choices (n % combination_count choices)
+    bound_to c.variable (slice_index c.coverages (n / combination_count choices)) ∷ combination_at choices
+    (n % combination_count choices)
 
 -- all combinations, the first variable outermost, coverages in listed order
 abbrev pub combinations : List ChoiceTree → List (List Bound)
 combinations [] = [] ∷ []
-combinations (c ∷ choices) = flat_map (λ (place : ℕ). map (λ (rest : List Bound). bound_to c.variable place ∷ rest) (combinations choices)) c.coverages
+combinations (c ∷ choices) = flat_map
+    (λ (place : ℕ). map (λ (rest : List Bound). bound_to c.variable place ∷ rest) (combinations choices)) c.coverages

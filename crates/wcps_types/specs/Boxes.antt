@@ -1,5 +1,5 @@
 -- Iterator lists, and the forms over a box.
-use Rattle.std.specs.Prelude.{ℕ, ℤ, pos, ◌^◌, List, [], ◌∷◌, ◌++◌, map, length, Bool, true, false, cond, not, ◌&&◌, ◌||◌, nat_le, nat_eq, int_le, Option, is_some, Ok, Err}
+use Rattle.std.specs.Prelude.{ℕ, ℤ, pos, List, [], ◌∷◌, ◌++◌, map, length, Bool, true, false, cond, not, ◌&&◌, ◌||◌, nat_le, nat_eq, int_le, Option, is_some, Ok, Err}
 use Rattle.std.specs.List.{list_any, list_all}
 use Rattle.std.specs.Str.{bytes_eq}
 use Rattle.arr_core.specs.declared.domain.Axis.{Axis}
@@ -33,7 +33,8 @@ no_iterators = record { variables = []; axes = [] }
 
 -- a variable is bound by `for`, by an iterator in scope, or by one before it in its list
 abbrev pub is_taken : List Bound → List (List ℕ) → List (List ℕ) → List ℕ → Bool
-is_taken bound scope before name = (is_some (bound_place name bound) || is_some (name_place name scope)) || is_some (name_place name before)
+is_taken bound scope before name =
+    (is_some (bound_place name bound) || is_some (name_place name scope)) || is_some (name_place name before)
 
 -- an axis with those bounds; the grammar spells names alone
 abbrev pub axis_of : List ℕ → BoundsOf → Answer Axis
@@ -56,7 +57,8 @@ are_ordered (a ∷ axes) = int_le a.lo a.hi && are_ordered axes
 
 -- axes make a domain, as a test: at most 6, no name twice, no lower bound above its upper one, at most 2^24 points
 abbrev pub is_domain : List Axis → Bool
-is_domain axes = (nat_le (length axes) max_axes && are_distinct (names_of axes)) && (are_ordered axes && nat_le (count axes) max_points)
+is_domain axes = (nat_le (length axes) max_axes && are_distinct (names_of axes)) &&
+    (are_ordered axes && nat_le (count axes) max_points)
 
 -- the box of the iterators
 abbrev pub box_of : List Axis → Answer (List Axis)
@@ -74,7 +76,8 @@ abbrev pub integers_condensed : Aggregate → List Axis → Option Typed → Sca
 integers_condensed op box c s = cond s.boolean (Err NeedsInteger) (Ok (unnamed [] false (condense_of op box c s.tree)))
 
 abbrev pub booleans_condensed : Aggregate → Bool → List Axis → Option Typed → ScalarOf → Answer ShapeTree
-booleans_condensed op boolean box c s = cond s.boolean (Ok (unnamed [] boolean (condense_of op box c s.tree))) (Err NeedsBoolean)
+booleans_condensed op boolean box c s =
+    cond s.boolean (Ok (unnamed [] boolean (condense_of op box c s.tree))) (Err NeedsBoolean)
 
 -- `condense`: `+ * max min` of integers, `and or` of Booleans
 abbrev pub condensed : Aggregate → List Axis → Option Typed → ScalarOf → Answer ShapeTree
@@ -111,8 +114,10 @@ other_kind false = NeedsInteger
 
 abbrev pub listed_on : Bool → List Axis → List ListItem → Answer ShapeTree
 listed_on boolean box items =
-    cond (list_all (has_kind boolean) items) (Ok (unnamed box boolean (listed box (map item_number items)))) (Err (other_kind boolean))
+    cond (list_all (has_kind boolean) items) (Ok (unnamed box boolean (listed box (map item_number items))))
+    (Err (other_kind boolean))
 
 -- `coverage .. value list`: an item for each point, all of the kind of the first one
 abbrev pub value_list : List Axis → List ListItem → Answer ShapeTree
-value_list box items = cond (nat_eq (length items) (count box)) (listed_on (first_is_truth items) box items) (Err ListLength)
+value_list box items = cond (nat_eq (length items) (count box)) (listed_on (first_is_truth items) box items)
+    (Err ListLength)

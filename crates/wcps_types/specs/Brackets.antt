@@ -38,7 +38,8 @@ bracket_view b = record { domain = b.domain; named = b.named.items; cuts = map c
 
 -- bounds as they are written: not the lower one above the upper one, and both of 32 bits
 abbrev pub written_bounds : ℤ → ℤ → Answer BoundsOf
-written_bounds lo hi = cond (int_le lo hi && (int_le (negsuc max_bound) lo && int_le hi (pos max_bound))) (Ok (record { lo = lo; hi = hi })) (Err BadInterval)
+written_bounds lo hi = cond (int_le lo hi && (int_le (negsuc max_bound) lo && int_le hi (pos max_bound)))
+    (Ok (record { lo = lo; hi = hi })) (Err BadInterval)
 
 abbrev pub bounds_of : Axis → BoundsOf
 bounds_of a = record { lo = a.lo; hi = a.hi }
@@ -86,14 +87,21 @@ position_of s = then_of (only_scalar s) integer_tree
 
 -- the axis taken out at a position
 abbrev pub with_position : List ℕ → Typed → BracketTree → BracketTree
-with_position name position b = record { domain = b.domain; named = b.named ++ name ∷ []; cuts = b.cuts ++ record { axis = name; position = position } ∷ [] }
+with_position name position b =
+    record {
+      domain = b.domain;
+      named = b.named ++ name ∷ [];
+      cuts =
+          b.cuts ++ record { axis = name; position = position } ∷ [];
+    }
 
 abbrev pub sliced_slot : ℕ → ℤ → ℤ → Typed → SlotTree → SlotTree
 sliced_slot k lo hi position s = record { name = s.name; boolean = s.boolean; tree = slice s.tree k lo hi position }
 
 abbrev pub cut_between : Option BoundsOf → ℕ → Typed → ShapeTree → ShapeTree
 cut_between None k position s = s
-cut_between (Some i) k position s = record { domain = remove s.domain k; fields = map (sliced_slot k i.lo i.hi position) s.fields }
+cut_between (Some i) k position s =
+    record { domain = remove s.domain k; fields = map (sliced_slot k i.lo i.hi position) s.fields }
 
 abbrev pub cut_at : Option ℕ → Typed → ShapeTree → ShapeTree
 cut_at None position s = s

@@ -17,7 +17,8 @@ under check c = check (signatures_in c.coverages.now) c.bound.now.list.items (na
 
 -- the same in the scope of further iterators
 abbrev pub inside : {A : Type 0} → Check A → Context → Opened → A
-inside check c over = check (signatures_in c.coverages.now) c.bound.now.list.items (names_in c.scope.now.frames ++ over.variables.items)
+inside check c over = check (signatures_in c.coverages.now) c.bound.now.list.items
+    (names_in c.scope.now.frames ++ over.variables.items)
 
 -- the expression has the shape that a call gave, or its first refusal
 abbrev pub TypesTo : Context → Tree → Result Shape CheckError → Type 0

@@ -35,4 +35,5 @@ tree_at s m bound k = over (coverages_in bound) (slice_get (trees_made s m) k)
 
 -- the combinations with their trees
 abbrev pub combined_view : Source → Combined → List CombinationTree
-combined_view s all = map (combination_view (trees_made s (record { makers = all.makers; latest = None }))) all.combinations.items
+combined_view s all = map (combination_view (trees_made s (record { makers = all.makers; latest = None })))
+    all.combinations.items

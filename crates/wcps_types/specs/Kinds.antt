@@ -124,7 +124,8 @@ HasKind cs (slice e axis lo hi position) k = HasKind cs e k × HasKind cs positi
 HasKind cs (array e) k = HasKind cs e k
 HasKind cs (listed box items) k = are_kept k items ≡ true
 HasKind cs (condense op box e) k = HasKind cs e (Some (takes_boolean op)) × (meets k (gives_boolean op) ≡ true)
-HasKind cs (condense_where op box c e) k = HasKind cs c (Some true) × HasKind cs e (Some (takes_boolean op)) × (meets k (gives_boolean op) ≡ true)
+HasKind cs (condense_where op box c e) k =
+    HasKind cs c (Some true) × HasKind cs e (Some (takes_boolean op)) × (meets k (gives_boolean op) ≡ true)
 HasKind cs (reduce op box e) k = HasKind cs e (Some (takes_boolean op)) × (meets k (gives_boolean op) ≡ true)
 
 -- each field of an item has its kind

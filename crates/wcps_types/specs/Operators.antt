@@ -18,7 +18,11 @@ use Rattle.wcps_types.specs.Shapes.{SlotTree, ShapeTree, FieldOf, Answer, then_o
 
 -- a field alone, which keeps its name
 abbrev pub one_selected : List Axis → SlotTree → ShapeTree
-one_selected axes s = record { domain = axes; fields = record { name = s.name; boolean = s.boolean; tree = typed.select s.tree } ∷ [] }
+one_selected axes s = record {
+  domain = axes;
+  fields =
+      record { name = s.name; boolean = s.boolean; tree = typed.select s.tree } ∷ [];
+}
 
 -- the field of that name
 abbrev pub selected : List ℕ → List Axis → List SlotTree → Answer ShapeTree
@@ -70,7 +74,8 @@ abbrev pub joined : FieldOf → FieldOf → Answer OperandTrees
 joined l r =
     cond (is_scalar l.domain && not (is_scalar r.domain)) (Ok (scalar_first l.tree r))
     (cond (is_scalar r.domain && not (is_scalar l.domain)) (Ok (scalar_last l r.tree))
-    (cond (are_same l.domain r.domain) (Ok (record { domain = l.domain; left = l.tree; right = r.tree })) (Err DomainMismatch)))
+    (cond (are_same l.domain r.domain) (Ok (record { domain = l.domain; left = l.tree; right = r.tree }))
+    (Err DomainMismatch)))
 
 abbrev pub binary_shape : BinaryOperator → Bool → OperandTrees → Answer ShapeTree
 binary_shape op boolean o = Ok (unnamed o.domain boolean (typed.binary op o.left o.right))
@@ -78,13 +83,17 @@ binary_shape op boolean o = Ok (unnamed o.domain boolean (typed.binary op o.left
 -- an operation on numbers, where a Boolean counts as 0 or 1: one field each, then the domains
 abbrev pub numeric : BinaryOperator → Bool → ShapeTree → ShapeTree → Answer ShapeTree
 numeric op boolean l r =
-    then_of (only_field l.domain l.fields) (λ (f : FieldOf). then_of (only_field r.domain r.fields) (λ (g : FieldOf). then_of (joined f g) (binary_shape op boolean)))
+    then_of (only_field l.domain l.fields)
+    (λ (f : FieldOf). then_of (only_field r.domain r.fields)
+    (λ (g : FieldOf). then_of (joined f g) (binary_shape op boolean)))
 
 -- an operation on Booleans: one field each, then the kinds, then the domains
 abbrev pub logical : BinaryOperator → ShapeTree → ShapeTree → Answer ShapeTree
 logical op l r =
     then_of (only_field l.domain l.fields)
-    (λ (f : FieldOf). then_of (only_field r.domain r.fields) (λ (g : FieldOf). cond (not f.boolean || not g.boolean) (Err NeedsBoolean) (then_of (joined f g) (binary_shape op true))))
+    (λ (f : FieldOf). then_of (only_field r.domain r.fields)
+    (λ (g : FieldOf). cond (not f.boolean || not g.boolean) (Err NeedsBoolean)
+    (then_of (joined f g) (binary_shape op true))))
 
 -- arithmetic gives integers, comparisons and logic Booleans
 abbrev pub binary : BinaryOperator → ShapeTree → ShapeTree → Answer ShapeTree
@@ -111,7 +120,8 @@ abbrev pub integer_reduction : Aggregate → ShapeTree → Answer ShapeTree
 integer_reduction op e = then_of (only_field e.domain e.fields) (reduced_integer op)
 
 abbrev pub reduced_boolean : Aggregate → Bool → FieldOf → Answer ShapeTree
-reduced_boolean op boolean f = cond f.boolean (Ok (unnamed [] boolean (typed.reduce op f.domain f.tree))) (Err NeedsBoolean)
+reduced_boolean op boolean f =
+    cond f.boolean (Ok (unnamed [] boolean (typed.reduce op f.domain f.tree))) (Err NeedsBoolean)
 
 -- of Booleans
 abbrev pub boolean_reduction : Aggregate → Bool → ShapeTree → Answer ShapeTree

@@ -16,4 +16,6 @@ tree_in on_axes p = cond (p.scalar && on_axes) (scalar (only_tree p.node)) (only
 -- labels, each beside the tree at its place, from place k on
 abbrev pub with_trees : List Typed → ℕ → List Label → List SlotTree
 with_trees trees k [] = []
-with_trees trees k (l ∷ labels) = record { name = l.name; boolean = l.boolean; tree = get_or trees k (number (pos 0)) } ∷ with_trees trees (suc k) labels
+with_trees trees k (l ∷ labels) =
+    record { name = l.name; boolean = l.boolean; tree = get_or trees k (number (pos 0)) } ∷ with_trees trees (suc k)
+    labels

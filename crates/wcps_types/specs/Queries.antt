@@ -36,12 +36,15 @@ combination_of c i = Ok (record { condition = c; item = i })
 
 -- with one choice of coverages: the `where`, then the item
 abbrev pub typ_combination : List Signature → QueryTree → List Bound → Answer CombinationTree
-typ_combination cs q bound = then_of (typ_condition cs bound [] q.condition) (λ (c : Option Typed). then_of (typ_item cs bound [] q.item) (combination_of c))
+typ_combination cs q bound = then_of (typ_condition cs bound [] q.condition)
+    (λ (c : Option Typed). then_of (typ_item cs bound [] q.item) (combination_of c))
 
 -- with one choice after the other, behind those that are done
-abbrev pub typ_each : List Signature → QueryTree → List CombinationTree → List (List Bound) → Answer (List CombinationTree)
+abbrev pub typ_each : List Signature → QueryTree → List CombinationTree → List (List Bound)
+    → Answer (List CombinationTree)
 typ_each cs q done [] = Ok done
-typ_each cs q done (bound ∷ more) = then_of (typ_combination cs q bound) (λ (c : CombinationTree). typ_each cs q (done ++ c ∷ []) more)
+typ_each cs q done (bound ∷ more) =
+    then_of (typ_combination cs q bound) (λ (c : CombinationTree). typ_each cs q (done ++ c ∷ []) more)
 
 -- first the cells of the result, then the work
 abbrev pub within_limits : List Signature → List CombinationTree → Answer TypedTree

@@ -44,15 +44,18 @@ is_part name pieces = list_any (λ (p : PieceTree). bytes_eq p.name name) pieces
 -- one part more: where it has axes and an earlier one has too, they are the same
 abbrev pub with_part : List ℕ → FieldOf → PieceTrees → Answer PieceTrees
 with_part name f p =
-    cond (not (is_scalar f.domain) && (not (is_scalar p.domain) && not (are_same p.domain f.domain))) (Err DomainMismatch)
+    cond (not (is_scalar f.domain) && (not (is_scalar p.domain) && not (are_same p.domain f.domain)))
+    (Err DomainMismatch)
     (Ok (record {
       domain = cond (is_scalar f.domain) p.domain f.domain;
-      pieces = p.pieces ++ record { name = name; on_no_axes = is_scalar f.domain; boolean = f.boolean; tree = f.tree } ∷ [];
+      pieces = p.pieces ++ record { name = name; on_no_axes = is_scalar f.domain; boolean = f.boolean; tree = f.tree } ∷
+          [];
     }))
 
 -- a scalar part beside one with axes is taken at every point
 abbrev pub finished_part : Bool → PieceTree → SlotTree
-finished_part on_axes p = record { name = Some p.name; boolean = p.boolean; tree = cond (p.on_no_axes && on_axes) (scalar p.tree) p.tree }
+finished_part on_axes p = record
+    { name = Some p.name; boolean = p.boolean; tree = cond (p.on_no_axes && on_axes) (scalar p.tree) p.tree }
 
 -- all parts
 abbrev pub finished : PieceTrees → ShapeTree

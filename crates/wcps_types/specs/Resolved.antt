@@ -13,7 +13,8 @@ use Rattle.wcps_types.specs.Kinds.{HaveKinds}
 
 -- the combinations with their trees
 abbrev pub combinations_of : QueryTree → Resolved → List CombinationTree
-combinations_of q r = map (combination_view (trees_of r.coverages.items q r.variables.list.items r.makers.items)) r.combinations.items
+combinations_of q r = map (combination_view (trees_of r.coverages.items q r.variables.list.items r.makers.items))
+    r.combinations.items
 
 -- the coverages, and the combinations in order
 abbrev pub resolved_view : QueryTree → Resolved → TypedTree

@@ -74,7 +74,8 @@ is_scalar (a ∷ axes) = false
 
 -- one unnamed field
 abbrev pub unnamed : List Axis → Bool → Typed → ShapeTree
-unnamed axes boolean tree = record { domain = axes; fields = record { name = None; boolean = boolean; tree = tree } ∷ [] }
+unnamed axes boolean tree = record
+    { domain = axes; fields = record { name = None; boolean = boolean; tree = tree } ∷ [] }
 
 -- whether the label is Boolean, where there is one alone
 abbrev pub the_boolean : List Label → Option Bool

@@ -117,7 +117,12 @@ Grows old new = (length old ≤ length new) × ((k : ℕ) → k < length old →
 
 -- the maker of a tree over those coverages, with the cells and the work of the tree
 abbrev pub maker_of : Vec ℕ Global → CombinationTree → Maker
-maker_of places t = record { coverages = places; cells = capped_cells (result_cells (t ∷ [])); work = capped (query_work (t ∷ [])) }
+maker_of places t = record {
+  coverages = places;
+  cells = capped_cells (result_cells (t ∷ []));
+  work =
+      capped (query_work (t ∷ []));
+}
 
 -- each maker tells the cells and the work of its tree
 abbrev pub AreCounted : List CombinationTree → List Maker → Type 0
@@ -126,14 +131,18 @@ AreCounted (t ∷ trees) (m ∷ makers) = (m ≡ maker_of m.coverages t) × AreC
 AreCounted [] (m ∷ makers) = ⊥
 AreCounted (t ∷ trees) [] = ⊥
 
--- what makers count of combinations: if each tells the cells and the work of its tree, it is that of the combinations with the trees
+-- what makers count of combinations: if each tells the cells and the work of its tree, it is that of the combinations
+-- with the trees
 abbrev pub IsCounted : (List CombinationTree → ℕ) → List Maker → List Combination → ℕ → Type 0
-IsCounted count makers list n = (trees : List CombinationTree) → AreCounted trees makers → n ≡ count (map (combination_view trees) list)
+IsCounted count makers list n =
+    (trees : List CombinationTree) → AreCounted trees makers → n ≡ count (map (combination_view trees) list)
 
 -- each maker has a tree, and tells its cells and its work
 abbrev pub AreMade : List Signature → QueryTree → List Bound → List Maker → Type 0
 AreMade cs q variables [] = Unit {0}
-AreMade cs q variables (m ∷ makers) = (makes cs q variables m ≡ true) × (m ≡ maker_of m.coverages (tree_of cs q variables m)) × AreMade cs q variables makers
+AreMade cs q variables (m ∷ makers) =
+    (makes cs q variables m ≡ true) × (m ≡ maker_of m.coverages (tree_of cs q variables m))
+    × AreMade cs q variables makers
 
 -- the tree that is kept is the one at its place
 abbrev pub IsLatest : List CombinationTree → Option Latest → Type 0

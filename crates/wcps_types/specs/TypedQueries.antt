@@ -12,4 +12,8 @@ trees_in q = trees_of q.coverages.items (tree.query_view q.query) q.variables.li
 
 -- the coverages, and the combinations in order
 abbrev pub query_view : TypedQuery → TypedTree
-query_view q = record { coverages = q.coverages.items; combinations = map (combination_view (trees_in q)) q.combinations.items }
+query_view q = record {
+  coverages = q.coverages.items;
+  combinations =
+      map (combination_view (trees_in q)) q.combinations.items;
+}

@@ -18,7 +18,8 @@ signatures_in coverages = map (λ (s : Bor Signature). s.now) coverages
 -- the fields of the coverage at place c, from that of place k on
 abbrev pub cells_from : ℕ → ℕ → List Field → List SlotTree
 cells_from c k [] = []
-cells_from c k (f ∷ fields) = record { name = Some f.name; boolean = is_bool f.kind; tree = cell c k } ∷ cells_from c (k + 1) fields
+cells_from c k (f ∷ fields) = record { name = Some f.name; boolean = is_bool f.kind; tree = cell c k } ∷ cells_from c
+    (k + 1) fields
 
 abbrev pub coverage_at : ℕ → Option Signature → Answer ShapeTree
 coverage_at c None = Err UnknownName

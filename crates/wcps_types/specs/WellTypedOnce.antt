@@ -30,12 +30,15 @@ IsTyped-prop cs (bracket e) scope dom = IsTyped-prop cs e scope dom
 IsTyped-prop cs (slice e axis lo hi position) scope dom =
     Prim.hlevel (le_prop, IsTyped-prop cs position scope [], IsTyped-prop cs e scope (insert dom axis (from_to lo hi)))
 IsTyped-prop cs (array e) scope dom = IsTyped-prop cs e (scope ++ dom) []
-IsTyped-prop cs (listed box items) scope dom = ×_prop (LieWithin-prop dom box) (Coded-set coded_ℕ (length items) (count box))
+IsTyped-prop cs (listed box items) scope dom =
+    ×_prop (LieWithin-prop dom box) (Coded-set coded_ℕ (length items) (count box))
 IsTyped-prop cs (condense op box e) scope dom = IsTyped-prop cs e (scope ++ box) []
-IsTyped-prop cs (condense_where op box c e) scope dom = ×_prop (IsTyped-prop cs c (scope ++ box) []) (IsTyped-prop cs e (scope ++ box) [])
+IsTyped-prop cs (condense_where op box c e) scope dom =
+    ×_prop (IsTyped-prop cs c (scope ++ box) []) (IsTyped-prop cs e (scope ++ box) [])
 IsTyped-prop cs (reduce op box e) scope dom = IsTyped-prop cs e scope box
 
-FieldsAreTyped-prop : (cs : List Signature) (dom : List Axis) (fields : List FieldTree) → IsProp (FieldsAreTyped cs dom fields)
+FieldsAreTyped-prop : (cs : List Signature) (dom : List Axis) (fields : List FieldTree)
+    → IsProp (FieldsAreTyped cs dom fields)
 FieldsAreTyped-prop cs dom [] = Unit-prop
 FieldsAreTyped-prop cs dom (f ∷ fields) = ×_prop (IsTyped-prop cs f.tree [] dom) (FieldsAreTyped-prop cs dom fields)
 
@@ -46,4 +49,5 @@ ConditionIsTyped-prop cs (Some c) = IsTyped-prop cs c [] []
 pub AreTyped-prop : (cs : List Signature) (all : List CombinationTree) → IsProp (AreTyped cs all)
 AreTyped-prop cs [] = Unit-prop
 AreTyped-prop cs (c ∷ more) =
-    ×_prop (×_prop (ConditionIsTyped-prop cs c.condition) (FieldsAreTyped-prop cs c.item.domain c.item.fields)) (AreTyped-prop cs more)
+    ×_prop (×_prop (ConditionIsTyped-prop cs c.condition) (FieldsAreTyped-prop cs c.item.domain c.item.fields))
+    (AreTyped-prop cs more)

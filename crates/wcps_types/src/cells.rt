@@ -1,6 +1,6 @@
 //! How many cells a result has.
 
-ghost use Rattle.std.specs.Prelude.{◌≡◌, ◌≤◌, ◌+◌, ◌*◌, ◌^◌, List, map, [], ◌∷◌};
+ghost use Rattle.std.specs.Prelude.{◌≡◌, ◌+◌, ◌*◌, [], ◌∷◌};
 ghost use Rattle.wcps_types.specs.Typed.{tree_view};
 ghost use Rattle.wcps_types.specs.Sharing.{IsCounted};
 ghost use Rattle.wcps_types.specs.Cells.{result_cells, capped_cells};

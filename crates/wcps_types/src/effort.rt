@@ -1,11 +1,11 @@
 //! Work: how many steps an evaluation takes at most, from domains alone.
 
-ghost use Rattle.std.specs.Prelude.{◌≡◌, ◌≤◌, ◌+◌, ◌*◌, ◌^◌, List, map, [], ◌∷◌};
+ghost use Rattle.std.specs.Prelude.{◌≡◌, ◌≤◌, ◌+◌, ◌*◌, List, [], ◌∷◌};
 ghost use Rattle.arr_core.specs.Limits.{max_points};
 ghost use Rattle.wcps_types.specs.Typed.{field_tree, fields_view, item_view, tree_view};
 ghost use Rattle.wcps_types.specs.Sharing.{IsCounted};
 ghost use Rattle.wcps_types.specs.TypedQueries.{query_view};
-ghost use Rattle.wcps_types.specs.Work.{work_of, fields_work, item_work, condition_work, query_work, max_work, capped};
+ghost use Rattle.wcps_types.specs.Work.{work_of, fields_work, item_work, query_work, max_work, capped};
 
 use crate::typed::{Node, Tree, TypedItem};
 use crate::typed_query::{Combination, Maker, TypedQuery};

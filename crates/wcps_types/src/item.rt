@@ -1,6 +1,6 @@
 //! What a query returns.
 
-ghost use Rattle.std.specs.Prelude.{◌≡◌, [], IfOk, map};
+ghost use Rattle.std.specs.Prelude.{◌≡◌, IfOk, map};
 ghost use Rattle.wcps_text.specs.Tree.{item_view as tree_item_view};
 ghost use Rattle.wcps_types.specs.Typed.{item_view};
 ghost use Rattle.wcps_types.specs.Labels.{label_of, labels_in};

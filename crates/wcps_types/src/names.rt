@@ -21,8 +21,8 @@ fn are_same_bytes(a: &[u8], b: &[u8]) -> bool
     }
 }
 
-/// Whether two texts are the same. A look-up compares a name with up to hundreds of others, of which most differ from it in
-/// their length or at an end.
+/// Whether two texts are the same. A look-up compares a name with up to hundreds of others, of which most differ from
+/// it in their length or at an end.
 pub fn is_same(a: &str, b: &str) -> bool
     ensures { result ≡ bytes_eq a.now b.now }
 {

@@ -11,8 +11,8 @@ use arr_core::Domain;
 use std::collections::BTreeSet;
 use wcps_text::QueryName;
 
-/// The parts so far, and the domain of those that have axes; without axes where none has. The names of the parts are kept
-/// in order too, so that it is soon told whether one is taken.
+/// The parts so far, and the domain of those that have axes; without axes where none has. The names of the parts are
+/// kept in order too, so that it is soon told whether one is taken.
 #[derive(Drop)]
 pub struct Pieces {
     pub domain: Domain,

@@ -56,8 +56,8 @@ fn place_of_same(latest: &Option<Box<Latest>>, tree: &Tree) -> Option<usize>
     }
 }
 
-/// The place of the tree of a query over the coverages of a combination: that of a maker whose coverages are like these,
-/// else that of the last tree, if it is the same, else that of the tree that is made of this combination.
+/// The place of the tree of a query over the coverages of a combination: that of a maker whose coverages are like
+/// these, else that of the last tree, if it is the same, else that of the tree that is made of this combination.
 fn place_of_tree(
     alloc: Global,
     source: &Source,

@@ -1,4 +1,5 @@
-//! What the trees of a query are typed over, the tree of a query over one choice of coverages, and trees that are asked for.
+//! What the trees of a query are typed over, the tree of a query over one choice of coverages, and trees that are asked
+//! for.
 
 ghost use Rattle.std.specs.Prelude.{◌≡◌, IfOk, option_map, slice_get};
 ghost use Rattle.wcps_types.specs.Typed.{tree_view};

@@ -1,6 +1,7 @@
 //! Typed trees. Names are resolved: a coverage is the place of its variable in the `for` list, a field its place in the
 //! coverage, an iterator its level among those in scope (outermost first, from 0), an axis its place in the domain. A
-//! Boolean is 0 or 1. Each expression has one node, however many fields its value has, so a tree is as large as its text.
+//! Boolean is 0 or 1. Each expression has one node, however many fields its value has, so a tree is as large as its
+//! text.
 
 use arr_core::Domain;
 use wcps_text::{Aggregate, BinaryOperator, UnaryOperator};
@@ -75,8 +76,8 @@ pub struct TypedItem {
     pub node: Box<Node>,
 }
 
-/// A query over its variables, each of which stands for a coverage with a given domain and given fields. The condition is
-/// the query's `where`, a scalar.
+/// A query over its variables, each of which stands for a coverage with a given domain and given fields. The condition
+/// is the query's `where`, a scalar.
 #[derive(Drop)]
 pub struct Tree {
     pub condition: Option<Box<Node>>,

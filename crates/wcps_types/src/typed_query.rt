@@ -1,6 +1,6 @@
-//! Typed queries: the text's own tree, and combinations of coverages that share typed trees. Such a tree is typed when it is
-//! asked for. In it the place of a coverage is that of a variable of the `for` list, which stands for the coverage that the
-//! combination has at that place.
+//! Typed queries: the text's own tree, and combinations of coverages that share typed trees. Such a tree is typed when
+//! it is asked for. In it the place of a coverage is that of a variable of the `for` list, which stands for the
+//! coverage that the combination has at that place.
 
 ghost use Rattle.std.specs.Prelude.{◌≡◌, ◌≤◌, length, map, true};
 ghost use Rattle.std.specs.List.{list_all};
@@ -18,8 +18,8 @@ use crate::bound::Variables;
 use arr_core::Signature;
 use wcps_text::Query;
 
-/// The query with one choice of coverages for its variables: the place of its tree among the query's trees, and for each
-/// variable the place of its coverage among the query's coverages.
+/// The query with one choice of coverages for its variables: the place of its tree among the query's trees, and for
+/// each variable the place of its coverage among the query's coverages.
 #[derive(Drop)]
 pub struct Combination {
     pub tree: usize,
@@ -35,11 +35,11 @@ pub struct Maker {
     pub(crate) work: u64,
 }
 
-/// A typed query, which `check` alone gives. It owns all that it needs, which is as much as its text. Combinations whose
-/// variables have coverages of the same domains and fields have one tree, and so have neighbours whose trees are the same.
-/// Each tree over the coverages of its combination can be evaluated: every coverage, field, axis and iterator has its
-/// place, and a list has an item for each point. It gives values of its kind, and its parts do. There is at least one
-/// combination. The result has at most 2^20 cells, and the work is at most 2^32 steps.
+/// A typed query, which `check` alone gives. It owns all that it needs, which is as much as its text. Combinations
+/// whose variables have coverages of the same domains and fields have one tree, and so have neighbours whose trees are
+/// the same. Each tree over the coverages of its combination can be evaluated: every coverage, field, axis and iterator
+/// has its place, and a list has an item for each point. It gives values of its kind, and its parts do. There is at
+/// least one combination. The result has at most 2^20 cells, and the work is at most 2^32 steps.
 #[derive(Drop)]
 pub struct TypedQuery {
     pub(crate) coverages: Vec<Signature>,

@@ -1,6 +1,6 @@
 //! Bodies whose closed folds become passes. A body is rewritten in its place.
 
-ghost use Rattle.std.specs.Prelude.{◌≡◌, ◌≤◌, ◌+◌, ◌^◌, ◌++◌, [], ◌∷◌, IfOk, OnOk, OnErr};
+ghost use Rattle.std.specs.Prelude.{◌≡◌, ◌≤◌, ◌+◌, ◌^◌, [], ◌∷◌, IfOk, OnOk, OnErr};
 ghost use Rattle.plan_ir.specs.Bodies.{body_view};
 ghost use Rattle.plan_ir.specs.Plans.{pass_view};
 ghost use Rattle.plan_rewrite.specs.HoistedParts.{body_hoisted, inner_pass, inner_passes};

@@ -1,6 +1,6 @@
 //! Plans whose closed folds are passes.
 
-ghost use Rattle.std.specs.Prelude.{◌≡◌, ◌++◌, [], ◌∷◌, IfOk, OnOk, map};
+ghost use Rattle.std.specs.Prelude.{◌≡◌, IfOk, OnOk, map};
 ghost use Rattle.plan_ir.specs.Plans.{item_view, steps_view, plan_view};
 ghost use Rattle.plan_ir.specs.Placed.{IsPlan};
 ghost use Rattle.plan_rewrite.specs.HoistedPlans.{item_on, hoisted_steps, hoisted_plan};
@@ -15,8 +15,8 @@ use std::alloc::{AllocError, Global};
 use std::mem;
 use std::vec::IntoIter;
 
-/// The plan with each fold that uses no variable from outside it as a pass, the innermost first, whose register stands in
-/// its place. A well-formed plan gives what it gave, faults included, and stays well-formed.
+/// The plan with each fold that uses no variable from outside it as a pass, the innermost first, whose register stands
+/// in its place. A well-formed plan gives what it gave, faults included, and stays well-formed.
 pub fn hoist(alloc: Global, plan: Plan) -> Result<Plan, AllocError>
     ensures planned { IfOk result (λ r. IsPlan (plan_view plan) → MeansSame (plan_view plan) (plan_view r)) }
     ensures placed { IfOk result (λ r. IsPlan (plan_view plan) → IsPlan (plan_view r)) }

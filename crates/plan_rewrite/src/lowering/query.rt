@@ -15,9 +15,9 @@ use plan_ir::{Combination as Choice, Plan, Steps};
 use std::alloc::{AllocError, Global};
 use wcps_types::{Combination, TypedQuery, tree_at};
 
-/// The plan of a query, without passes. It gives the query's answer, its first fault too, and is well-formed. Steps stand
-/// once for each tree, and combinations that share a tree share them. `rewrite` makes it a plan of at most as many units as
-/// the number of combinations times two more than the work.
+/// The plan of a query, without passes. It gives the query's answer, its first fault too, and is well-formed. Steps
+/// stand once for each tree, and combinations that share a tree share them. `rewrite` makes it a plan of at most as
+/// many units as the number of combinations times two more than the work.
 pub fn lower(alloc: Global, query: &TypedQuery) -> Result<Plan, AllocError>
     ensures planned { IfOk result (λ p. Answers (query_view query.now) (plan_view p)) }
     ensures placed { IfOk result (λ p. IsPlan (plan_view p)) }

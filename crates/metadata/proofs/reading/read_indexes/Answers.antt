@@ -1,5 +1,5 @@
 -- The indexes of each coverage are read in turn, and where one is damaged no list of them is there.
-use Rattle.std.proofs.Common.{[], ◌∷◌, ap, sym, ◌∙◌, arith, take_all}
+use Rattle.std.proofs.Common.{[], ◌∷◌, ap, ◌∙◌, arith, take_all}
 use Rattle.std.proofs.lemmas.List.{map-append, take_more}
 use Rattle.std.proofs.lemmas.Option.{slice_get_within, get_or_from_slice_get}
 use Rattle.catalogue.proofs.Lists.{read-none, read-more, read-stops, read-all}

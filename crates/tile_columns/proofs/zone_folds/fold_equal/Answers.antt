@@ -1,4 +1,5 @@
--- A column of what the outcomes are compared with has as many places as they, and so has one of the bodies that it makes.
+-- A column of what the outcomes are compared with has as many places as they, and so has one of the bodies that it
+-- makes.
 use Rattle.std.proofs.Common.{◌≡◌, ◌∙◌, length, map, ap, subst, sym, arith, rules}
 use Rattle.std.proofs.lemmas.List.{length-map}
 use Rattle.tile_kernel.specs.Told.{demanded_at, told_at}

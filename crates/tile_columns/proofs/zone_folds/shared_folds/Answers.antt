@@ -1,4 +1,5 @@
--- What accumulators are told of the equation as a condition, or of it in the body with blanks for the points of other zones.
+-- What accumulators are told of the equation as a condition, or of it in the body with blanks for the points of other
+-- zones.
 use Rattle.std.proofs.Common.{◌≡◌, ◌∙◌, ◌<◌, length, ap, subst, pos, rules}
 use Rattle.std.specs.Prelude.{replicate, IsTrue}
 use Rattle.std.proofs.lemmas.List.{length-replicate}

@@ -1,5 +1,5 @@
 -- One more value was written where it fits 32 bits, and the bounds are those of one more place.
-use Rattle.std.proofs.Common.{◌≡◌, ◌+◌, arith, rules, subst, sym, SFits}
+use Rattle.std.proofs.Common.{◌+◌, arith, rules, subst, sym, SFits}
 use Rattle.std.specs.Int.{w32}
 use Rattle.tile_kernel.specs.Columns.{exact_at}
 use Rattle.tile_kernel.specs.Narrow.{IsBound}

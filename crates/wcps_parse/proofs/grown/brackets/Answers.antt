@@ -1,10 +1,6 @@
 use Rattle.std.proofs.Common.{arith}
 use Rattle.wcps_parse.proofs.Trees.{brackets_shown}
 use Rattle.wcps_parse.proofs.Trees.{subs_high}
-use Rattle.wcps_parse.proofs.Trees.{brackets_shown}
-use Rattle.wcps_parse.proofs.Trees.{subs_high}
-use Rattle.wcps_parse.proofs.Trees.{brackets_shown}
-use Rattle.wcps_parse.proofs.Trees.{subs_high}
 use Rattle.wcps_parse.proofs.grown.brackets.Goals as goal
 
 pub returns-in_default : goal.returns-in_default

@@ -1,10 +1,6 @@
 use Rattle.std.proofs.Common.{arith}
 use Rattle.wcps_parse.proofs.Trees.{coverage_shown}
 use Rattle.wcps_parse.proofs.Trees.{iters_high}
-use Rattle.wcps_parse.proofs.Trees.{coverage_shown}
-use Rattle.wcps_parse.proofs.Trees.{iters_high}
-use Rattle.wcps_parse.proofs.Trees.{coverage_shown}
-use Rattle.wcps_parse.proofs.Trees.{iters_high}
 use Rattle.wcps_parse.proofs.grown.coverage.Goals as goal
 
 pub returns-in_default : goal.returns-in_default

@@ -1,10 +1,6 @@
 use Rattle.std.proofs.Common.{arith}
 use Rattle.wcps_parse.proofs.Trees.{record_shown}
 use Rattle.wcps_parse.proofs.Trees.{parts_high}
-use Rattle.wcps_parse.proofs.Trees.{record_shown}
-use Rattle.wcps_parse.proofs.Trees.{parts_high}
-use Rattle.wcps_parse.proofs.Trees.{record_shown}
-use Rattle.wcps_parse.proofs.Trees.{parts_high}
 use Rattle.wcps_parse.proofs.grown.record.Goals as goal
 
 pub returns-in_default : goal.returns-in_default

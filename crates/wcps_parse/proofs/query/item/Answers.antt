@@ -2,7 +2,6 @@
 use Rattle.std.proofs.Common.{◌≡◌, ◌<◌, length, arith}
 use Rattle.std.proofs.lemmas.Result.{err_from_is_err_and}
 use Rattle.wcps_text.specs.Tree as tree
-use Rattle.wcps_text.specs.Tree.{bindings_of}
 use Rattle.wcps_parse.specs.Reading.{item}
 use Rattle.wcps_parse.proofs.Coming.{comes_now, comes_then, fails_then, reads_all_then}
 use Rattle.wcps_parse.proofs.Ends.{no_end, has_end}

@@ -1,8 +1,6 @@
 use Rattle.std.proofs.Common.{arith}
 use Rattle.wcps_types.proofs.Efforts.{bracket_work}
 use Rattle.wcps_types.proofs.Efforts.{slice_work}
-use Rattle.wcps_types.proofs.Efforts.{bracket_work}
-use Rattle.wcps_types.proofs.Efforts.{slice_work}
 use Rattle.wcps_types.proofs.effort.+fields_work.Goals as goal
 
 pub returns-in-Bracket : goal.returns-in-Bracket

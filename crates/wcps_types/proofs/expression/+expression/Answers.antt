@@ -1,4 +1,5 @@
--- Forms with lists have the shape or the first refusal of what their parts are seen as; a bracket's axes are told one at a time.
+-- Forms with lists have the shape or the first refusal of what their parts are seen as; a bracket's axes are told one
+-- at a time.
 use Rattle.std.proofs.Common.{◌≡◌, ◌+◌, drop, ap, ◌∙◌, sym, subst, map, not, is_some, IfSome, Ok, Err, false, rules, arith}
 use Rattle.std.proofs.lemmas.Grind.{common_steps}
 use Rattle.wcps_text.specs.declared.tree.Expr.{Expr}

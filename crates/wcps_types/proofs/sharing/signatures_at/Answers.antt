@@ -1,4 +1,5 @@
--- The signatures so far, followed by those of the places that are left, are those of all places; where no coverage is at a place nothing comes.
+-- The signatures so far, followed by those of the places that are left, are those of all places; where no coverage is
+-- at a place nothing comes.
 use Rattle.std.proofs.Common.{◌≡◌, ◌+◌, ◌++◌, ◌∷◌, [], drop, get_or, ap, sym, ◌∙◌, rules, append-nil}
 use Rattle.std.specs.Prelude.{slice_get, Some, None}
 use Rattle.std.specs.Borrow.{Bor}

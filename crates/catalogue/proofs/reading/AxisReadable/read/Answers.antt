@@ -1,9 +1,6 @@
 use Rattle.std.proofs.Common.{arith}
 use Rattle.std.proofs.lemmas.Grind.{common_steps}
 use Rattle.catalogue.specs.Bytes.{axis_bytes}
-use Rattle.catalogue.specs.Bytes.{axis_bytes}
-use Rattle.catalogue.specs.Bytes.{axis_bytes}
-use Rattle.catalogue.specs.Bytes.{axis_bytes}
 use Rattle.catalogue.proofs.reading.AxisReadable.read.Goals as goal
 
 pub returns-in_err-name-clause-damaged : goal.returns-in_err-name-clause-damaged

@@ -1,5 +1,5 @@
 -- The bytes of the count and of all entries are those of the index.
-use Rattle.std.proofs.Common.{◌≡◌, ◌++◌, ℕ, List, length, take, flat_map, sum_by, ap, ◌∙◌, arith, take_all, length-append}
+use Rattle.std.proofs.Common.{◌≡◌, ℕ, List, length, take, flat_map, sum_by, ap, ◌∙◌, arith, take_all, length-append}
 use Rattle.std.proofs.lemmas.List.Concat.{length-flat_map}
 use Rattle.tile_index.specs.declared.entry.Entry.{Entry}
 use Rattle.tile_index.specs.Bytes.{number_bytes, entry_bytes}

@@ -1,4 +1,5 @@
--- A running condenser that was fed the value stands for one more point, and a fault is taken in as an accumulator of it alone.
+-- A running condenser that was fed the value stands for one more point, and a fault is taken in as an accumulator of it
+-- alone.
 use Rattle.std.proofs.Common.{refl, [], ◌∷◌, sym, subst, rules, SFits, w64, to_z, of_z}
 use Rattle.std.proofs.lemmas.Int.{to_z-of_z}
 use Rattle.wcps_mean.specs.declared.cell.Outcome.TheVariants.{Value}
