@@ -1,7 +1,7 @@
 //! Runs one kernel or one condenser over columns of so many cells, to time it.
 //!
-//! Its words are an operation or a condenser, how its operands are kept, what cells they have, how many, and how often. The line is
-//! a number that depends on the results.
+//! Its words are an operation or a condenser, how its operands are kept, what cells they have, how many, and how often.
+//! The line is a number that depends on the results.
 
 mod cells;
 mod rounds;

@@ -1,7 +1,7 @@
 //! Runs a part of the project as often as it is told, to time it from outside.
 //!
-//! Its words are the part, `query`, `tile`, `csv`, `kernel` or `store`, and what that part is told. Without words, each line of
-//! standard input has the words of a run. For each run it prints a line that depends on the results.
+//! Its words are the part, `query`, `tile`, `csv`, `kernel` or `store`, and what that part is told. Without words, each
+//! line of standard input has the words of a run. For each run it prints a line that depends on the results.
 #![tactic(auto)]
 
 mod csv;

@@ -1,9 +1,9 @@
 //! Writes and reads a grid of cells of 16 bits in a store, as often as it is told, to time how boxes are written and
 //! read.
 //!
-//! Its words are an action, how many rows and columns the grid has, how often, the file of the store, and how many pages
-//! of it are kept; without a file the store is in memory, and without a number of pages there is no pool. The line is a
-//! number that depends on what was read.
+//! Its words are an action, how many rows and columns the grid has, how often, the file of the store, and how many
+//! pages of it are kept; without a file the store is in memory, and without a number of pages there is no pool. The
+//! line is a number that depends on what was read.
 
 mod grid;
 mod rounds;
@@ -11,7 +11,7 @@ mod rounds;
 use anyhow::{Result, bail};
 use arr_core::Cell;
 use block_file::{BlockFile, Blocks};
-use disk_face::{Disk, FileDisk, MemDisk};
+use disk_face::{Disk, FileDisk, MemoryDisk};
 use grid::Grid;
 use page_pool::PagePool;
 use rounds::{Action, Whole, place, repeat};
@@ -52,7 +52,7 @@ fn read_whole<B: Blocks + Drop>(
     }
     let sum = repeat(alloc, grid, task.action, whole, task.rounds)?;
     let (row, column) = place(task.rounds, task.side);
-    Ok(sum.wrapping_add(grid.number(&[row as i32, column as i32])?))
+    Ok(sum.wrapping_add(grid.number(alloc, &[row as i32, column as i32])?))
 }
 
 /// The cells of a new grid: noise, or none for `Action::Fill`.
@@ -100,7 +100,7 @@ fn in_file(rt: &HostRuntime, path: &str, pages: Option<usize>, task: Task) -> Re
 
 /// What is read in memory.
 fn in_memory(alloc: Global, task: Task) -> Result<i64> {
-    opened(alloc, MemDisk::new(Vec::new(alloc)), None, task)
+    opened(alloc, MemoryDisk::new(Vec::new(alloc)), None, task)
 }
 
 /// What is read in the file that words name, or in memory.

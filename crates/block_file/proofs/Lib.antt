@@ -1,6 +1,7 @@
 pub mod Chains
 pub mod Frames
 pub mod Free
+pub mod Growth
 pub mod Headers
 pub mod Markings
 pub mod Numbers

@@ -96,8 +96,8 @@ pub record IsClosed (content metadata : List ℕ) : Type 0 where
   pub few : length content / block_bytes ≤ max_blocks
   pub chain : IsChain (block_at content) (first_of content) metadata
 
--- a store file that is not open, and that is not closed with any metadata of at most 15,000,000 bytes: its header or its
--- chain departs from the format
+-- a store file that is not open, and that is not closed with any metadata of at most 15,000,000 bytes: its header or
+-- its chain departs from the format
 pub record IsDamaged (content : List ℕ) : Type 0 where
   pub store : IsStoreFile content
   pub not_open : number_at 12 4 content ≢ 1

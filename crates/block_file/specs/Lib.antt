@@ -6,3 +6,4 @@ pub mod View
 pub mod Links
 pub mod Limits
 pub mod Faults
+pub mod Growth

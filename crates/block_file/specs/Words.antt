@@ -7,8 +7,8 @@ use Rattle.block_file.specs.State.{BlocksState, block, IsFree, times}
 use Rattle.block_file.specs.Format.{IsChain, IsPadded, link, chain_blocks, HeaderWritten, HeaderTorn, HeaderLast, Closes}
 use Rattle.file_bytes.specs.Limits.{block_bytes}
 
--- Blocks were asked for, so often each. Nothing has changed but the count of failures; and where they are whole, none was
--- read past the end of an honest disk.
+-- Blocks were asked for, so often each. Nothing has changed but the count of failures; and where they are whole, none
+-- was read past the end of an honest disk.
 pub record OnlyReads (asked : ℕ → ℕ) (old new : BlocksState) : Type 0 where
   pub content : new.content ≡ old.content
   pub synced : new.synced ≡ old.synced

@@ -6,6 +6,7 @@ ghost use Rattle.block_file.specs.Limits.{chain_bytes, max_blocks};
 ghost use Rattle.block_file.specs.State.{free_of, times, none};
 ghost use Rattle.block_file.specs.Words.{Moves, HoldsChain};
 ghost use Rattle.block_file.specs.Format.{number_at, chain_blocks};
+ghost use Rattle.block_file.specs.Growth.{EndsWith, GrowsBy};
 ghost use Rattle.block_file.specs.Links.{IsNoChain, IsLayoutOf, ReadsChain, AddsLink, HoldsLinks};
 
 use crate::header::{Header, put_number, u32_at};
@@ -81,13 +82,14 @@ pub(crate) fn read_chain<D: Disk>(
     })
 }
 
-/// Writes metadata, of at least one byte, as a chain into blocks that are free and stay so, and gives the first of
-/// them. As many blocks have to be free as it fills. Refused for memory, or for a fault of the disk.
+/// Writes metadata, of at least one byte, as a chain into the lowest blocks that are free, which stay so, and gives the
+/// first of them. As many blocks have to be free as it fills. Refused for memory, or for a fault of the disk.
 pub fn write_chain<B: Blocks>(file: &mut B, metadata: &[u8]) -> Result<u32, CloseFault>
     requires some { 0 < length metadata.now }
     requires room { chain_blocks (length metadata.now) ≤ free_of (B.state file.old) }
     ensures chain { IfOk result (λ first. HoldsChain first metadata.now (B.state file.new)) }
     ensures frame { Moves none none (B.state file.old) (B.state file.new) }
+    ensures grows { GrowsBy (chain_blocks (length metadata.now)) (B.state file.old) (B.state file.new) }
     ensures told { Tells (IsErrOf result CloseFault.DiskFault) (B.state file.old).failures (B.state file.new).failures }
 {
     let taken = match file.take(metadata.len().div_ceil(CHAIN_BYTES)) {
@@ -111,6 +113,7 @@ fn write_links<B: Blocks>(file: &mut B, ks: &[u32], metadata: &[u8]) -> Result<(
     requires enough { length ks.now ≡ chain_blocks (length metadata.now) }
     ensures links { OnOk result (HoldsLinks ks.now metadata.now (B.state file.new)) }
     ensures frame { Moves (times ks.now) (times ks.now) (B.state file.old) (B.state file.new) }
+    ensures ends { EndsWith ks.now (B.state file.old).content (B.state file.new).content }
     ensures told { Tells (IsErr result) (B.state file.old).failures (B.state file.new).failures }
 {
     for i in 0..ks.len() {

@@ -44,8 +44,8 @@ pub trait Blocks {
         ensures frame { OnlyReads (one k) (state self.old) (state self.new) }
         ensures told { Tells (IsErr result) (state self.old).failures (state self.new).failures };
 
-    /// What neighbouring blocks hold, from block k on, one behind the other: as many as the bytes have room for. Refused
-    /// only where the disk has counted a failure.
+    /// What neighbouring blocks hold, from block k on, one behind the other: as many as the bytes have room for.
+    /// Refused only where the disk has counted a failure.
     fn read_run(&mut self, k: u32, bytes: &mut [u8]) -> Result<(), DiskFault>
         requires whole { length bytes.old % block_bytes ≡ 0 }
         requires used { (i : ℕ) → block_bytes * i < length bytes.old → 0 < (state self.old).uses (k + i) }
@@ -77,8 +77,8 @@ pub trait Blocks {
         requires { Covers (state self.old) (times ks.now) }
         ensures { Recounts (times ks.now) none (state self.old) (state self.new) };
 
-    /// Counts one use more of each block listed, as often as it is listed: so one that is given back once is in use still,
-    /// until it is given back once more. Refused for memory alone; no use is counted then.
+    /// Counts one use more of each block listed, as often as it is listed: so one that is given back once is in use
+    /// still, until it is given back once more. Refused for memory alone; no use is counted then.
     fn hold(&mut self, ks: &[u32]) -> Result<(), AllocError>
         requires { AreUsed ks.now (state self.old) }
         ensures held { OnOk result (Recounts none (times ks.now) (state self.old) (state self.new)) }
@@ -93,8 +93,8 @@ pub trait Blocks {
     fn free(&self) -> u32
         ensures { result ≡ free_of (state self.now) };
 
-    /// How often block k is in use: not at all where it is the header, is free or lies past the end of the file. It tests
-    /// what the other calls ask of uses.
+    /// How often block k is in use: not at all where it is the header, is free or lies past the end of the file. It
+    /// tests what the other calls ask of uses.
     fn uses(&self, k: u32) -> u32
         ensures { result ≡ (state self.now).uses k };
 

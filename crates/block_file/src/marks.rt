@@ -12,8 +12,8 @@ use std::marker::Model;
 /// How a free block is marked that holds metadata.
 const KEPT: u32 = u32::MAX;
 
-/// A mark for each block of a file: how often it is in use, and once for the header, or `KEPT`; 4 MiB of marks for a file
-/// of 4 GiB. How many blocks are free, those past the last counted, and a block from 1 on below which none is.
+/// A mark for each block of a file: how often it is in use, and once for the header, or `KEPT`; 4 MiB of marks for a
+/// file of 4 GiB. How many blocks are free, those past the last counted, and a block from 1 on below which none is.
 #[derive(Drop)]
 pub(crate) struct Marks {
     marks: Vec<u32>,
@@ -154,8 +154,8 @@ impl Marks {
         }
     }
 
-    /// Counts one use more of a block in use. Says whether it could: the count ends two below the last `u32`, and who holds
-    /// a block so often keeps as many copies of the list that names it, more than a machine has memory for.
+    /// Counts one use more of a block in use. Says whether it could: the count ends two below the last `u32`, and who
+    /// holds a block so often keeps as many copies of the list that names it, more than a machine has memory for.
     fn hold_one(&mut self, k: u32) -> bool
         requires { 0 < uses_of self.old k }
         ensures marks { OnTrue result ((j : ℕ) → slice_index self.new j ≡ slice_index self.old j + one k j) }
@@ -172,8 +172,8 @@ impl Marks {
         true
     }
 
-    /// Counts one use more of each block listed, as often as it is listed, or of none, where the count of one of them is at
-    /// its end. Says whether it did. Takes no memory.
+    /// Counts one use more of each block listed, as often as it is listed, or of none, where the count of one of them
+    /// is at its end. Says whether it did. Takes no memory.
     pub(crate) fn hold(&mut self, ks: &[u32]) -> bool
         requires { (k : ℕ) → 0 < times ks.now k → 0 < uses_of self.old k }
         ensures raised { OnTrue result (Raises ks.now self.old self.new) }

@@ -8,18 +8,20 @@ use Rattle.block_file.specs.declared.fault.CloseFault.TheVariants as closing
 use Rattle.coverage_server.specs.Closing.{HoldsClosed, IsWritten, WritesHeld, metadata_held}
 use Rattle.coverage_server.specs.Damage.{KeepsSpelled}
 use Rattle.coverage_server.specs.Disk.{DiskView, HoldsStore, ListsStore}
+use Rattle.coverage_server.specs.Growing.{GrowsToClose}
 use Rattle.coverage_server.specs.Sessions.{IsClosedTo, IsNotClosed}
 use Rattle.coverage_server.specs.Views.{ServerView, IsSound, IsUnchanged, signatures_of, without_held}
 use Rattle.coverage_server.proofs.ClosingLemmas.{spelled_again}
+use Rattle.coverage_server.proofs.GrowthLemmas.{grows_again}
 use Rattle.coverage_server.proofs.LettingLemmas.{lists_again, intact_again, holds_again}
 use Rattle.coverage_server.proofs.SpelledLemmas.{closed_spelled}
 
 -- the disk below the coverages whose metadata was written
 pub closed_to : (v w : ServerView) (disk : DiskView) → WritesHeld v w → IsUnchanged v w → (IsSound v → IsSound w)
-    → (IsTrue v.honest → KeepsSpelled v w) → w.honest ≡ v.honest → w.failures ≡ v.failures → w.overreads ≡ v.overreads
+    → (IsTrue v.honest → KeepsSpelled v w) → GrowsToClose v w.content → w.honest ≡ v.honest → w.failures ≡ v.failures → w.overreads ≡ v.overreads
     → HoldsClosed w disk.content → disk.content ≡ w.content → disk.honest ≡ w.honest → disk.failures ≡ w.failures
     → disk.overreads ≡ w.overreads → IsClosedTo v disk
-closed_to v w disk written same sounds keeps honest none inside closed content truth count within = record {
+closed_to v w disk written same sounds keeps grows honest none inside closed content truth count within = record {
   lists = λ sure.
       subst (λ (s : Store). ListsStore disk.content s v.indexes) (same.store sure)
       (subst (λ (l : List (List Index)). ListsStore disk.content w.store l) same.indexes
@@ -30,6 +32,7 @@ closed_to v w disk written same sounds keeps honest none inside closed content t
   spelled = closed_spelled v w disk.content content same keeps;
   held = λ sound.
       subst (HoldsStore disk.content) (same.store sound.honest) (closed.held (now sound.honest) (sounds sound));
+  grows = subst (GrowsToClose v) (sym content) grows;
   honest = truth ∙ honest;
   failures = count ∙ none;
   overreads = within ∙ inside;
@@ -51,6 +54,7 @@ closed_again fault old mid disk is a closed = record {
   intact = intact_again fault old mid disk.content a closed.intact;
   spelled = spelled_again fault old mid disk.content a closed.spelled;
   held = holds_again fault old mid disk.content a closed.held;
+  grows = grows_again old mid disk.content a.unchanged a.honest a.grows closed.grows;
   honest = closed.honest ∙ a.honest;
   failures = closed.failures ∙ (a.no_memory is).1;
   overreads = closed.overreads ∙ a.overreads;

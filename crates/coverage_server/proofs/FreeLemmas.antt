@@ -1,4 +1,5 @@
--- Which blocks are free: those that no index lists and nothing that is held for jobs. A server stays one that can be closed.
+-- Which blocks are free: those that no index lists and nothing that is held for jobs. A server stays one that can be
+-- closed.
 use Rattle.std.proofs.Common.{◌≡◌, ℕ, map, zero, suc, ◌+◌, ◌-◌, ◌≤◌, List, [], ◌∷◌, ◌++◌, length, Result, Ok, Err, OnOk, OnErr, refl, sym, ap, ◌∙◌, subst, arith}
 use Rattle.std.specs.Prelude.{ℤ, IsErrOf, IsTrue, replicate}
 use Rattle.arr_core.specs.declared.domain.Axis.{Axis}

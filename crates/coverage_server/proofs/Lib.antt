@@ -37,3 +37,4 @@ pub mod ValueLemmas
 pub mod NamedLemmas
 pub mod ReplyLemmas
 pub mod ClosedLemmas
+pub mod GrowthLemmas

@@ -6,7 +6,7 @@ use Rattle.arr_core.specs.declared.refusal.Refusal.TheVariants as refusal
 use Rattle.arr_core.specs.Refusals.{number_of}
 use Rattle.catalogue.specs.Signatures.{IsCatalogue}
 use Rattle.http_front.specs.Stream.{Shows}
-use Rattle.http_front.specs.declared.conn.Next.TheVariants as next
+use Rattle.http_front.specs.declared.connection.Next.TheVariants as next
 use Rattle.http_front.specs.declared.reply.Reply.{Reply}
 use Rattle.http_front.specs.declared.reply.Reply.TheVariants.{Text, Csv, Refused}
 use Rattle.kvp_front.specs.Requests.{Asks, spelled, refusal_of}

@@ -9,18 +9,18 @@ use Rattle.std.proofs.lemmas.List.Sums.{sum_by-cons}
 use Rattle.std.proofs.lemmas.List.Elements.{All-head, All-tail, All-weaker, All-contains_itself}
 use Rattle.arr_core.specs.declared.domain.Axis.{Axis}
 use Rattle.arr_core.specs.declared.field.Field.{Field}
-use Rattle.arr_core.specs.Domains.{points, count, point_at, rank_of, IsInside, IsBoxOf, AreOrdered}
+use Rattle.arr_core.specs.Domains.{points, count, point_at, rank_of, IsInside, IsBoxOf, IsDomain, AreOrdered}
 use Rattle.arr_core.specs.Stores.{Coverage, Store, found, value_at}
 use Rattle.arr_core.specs.Tiles.{grid, edge_of, tile_box, TileMeets}
 use Rattle.arr_core.proofs.Points.{at_rank, at_place, length-points, point-inside, rank_of-lt-count}
 use Rattle.arr_core.proofs.Boxes.{IsBoxOf-box}
 use Rattle.arr_core.proofs.Grids.{ordered-grid, edge-some, length-tile_boxes, get_or-tile_boxes}
-use Rattle.tile_store.specs.Room.{AreMeeting, listed_bytes, patched_at, tile_blocks, room_for}
+use Rattle.tile_store.specs.Room.{AreMeeting, listed_bytes, new_blocks, patched_at, tile_blocks, room_for}
 use Rattle.tile_store.specs.Stored.{field_values, number_at}
 use Rattle.raster_store.specs.Views.{Index, values_in, coverage_in, coverages_in}
 use Rattle.raster_store.specs.Calls.{signature_of, index_of, blocks_with}
 use Rattle.raster_store.proofs.Contents.{values-at}
-use Rattle.raster_store.proofs.Readings.{box_inside, same_map}
+use Rattle.raster_store.proofs.Readings.{box_inside, same_map, tile_is_box}
 use Rattle.coverage_server.specs.Room.{blocks_put}
 
 -- ---- the coverage with a name
@@ -102,11 +102,10 @@ met_within domain area tile box (low, (p, here, there)) =
 -- they take as many blocks by the store as by the bytes below
 blocks_alike : (content : List ℕ) (c : Coverage) (field : ℕ) (f : Field) (i : Index) (area : List Axis)
     (numbers : List ℤ) (tile : ℕ) → IsListedAs content c field i
-    → slice_get c.fields field ≡ Some f → IsBoxOf c.domain area → TileMeets c.domain tile area
+    → slice_get c.fields field ≡ Some f → AreOrdered (tile_box c.domain tile) × IsBoxOf c.domain (tile_box c.domain tile)
     → blocks_with c f i content area numbers tile ≡ blocks_put c field f.kind area numbers tile
-blocks_alike content c field f i area numbers tile l at box meets =
+blocks_alike content c field f i area numbers tile l at of =
     let part = tile_box c.domain tile in
-    let of = met_within c.domain area tile box meets in
     ap (tile_blocks f.kind) (same_map (patched_at area numbers (number_at f.kind c.domain i content))
     (patched_at area numbers (value_at c field)) (points part) (λ k d less.
     let below : k < count part = omega (arith, less, length-points part) in
@@ -140,6 +139,19 @@ room_alike content c field f i area numbers tiles rest l at box meeting =
     let h = blocks_put c field f.kind area numbers in
     let each : All (λ t. g t ≡ h t) tiles =
     All-weaker (Contains tiles) (λ (t : ℕ). g t ≡ h t)
-    (λ t in_tiles. blocks_alike content c field f i area numbers t l at box ((meeting.exact t).0 in_tiles)) tiles
+    (λ t in_tiles. blocks_alike content c field f i area numbers t l at
+    (met_within c.domain area t box ((meeting.exact t).0 in_tiles))) tiles
     (All-contains_itself tiles) in
     rw (sum_alike g h tiles each, bytes_alike listed_bytes g h tiles each) refl
+
+-- the new tiles of a box take as many
+pub new_alike : (content : List ℕ) (c : Coverage) (field : ℕ) (f : Field) (i : Index) (area : List Axis)
+    (numbers : List ℤ) (tiles : List ℕ) → IsListedAs content c field i
+    → slice_get c.fields field ≡ Some f → IsDomain c.domain → AreMeeting c.domain area tiles
+    → new_blocks (blocks_with c f i content area numbers) tiles ≡ new_blocks (blocks_put c field f.kind area numbers) tiles
+new_alike content c field f i area numbers tiles l at domain meeting =
+    let g = blocks_with c f i content area numbers in
+    let h = blocks_put c field f.kind area numbers in
+    sum_alike g h tiles (All-weaker (Contains tiles) (λ (t : ℕ). g t ≡ h t)
+    (λ t in_tiles. blocks_alike content c field f i area numbers t l at
+    (tile_is_box c.domain t domain ((meeting.exact t).0 in_tiles).0)) tiles (All-contains_itself tiles))

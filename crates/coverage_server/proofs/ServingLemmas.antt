@@ -7,13 +7,13 @@ use Rattle.std.proofs.KnownBytes.{Appends-trans, Consumes-trans}
 use Rattle.stream_face.specs.Faults.{AppendsPrefix}
 use Rattle.stream_face.specs.Views.{SourceView, SinkView}
 use Rattle.stream_face.specs.Waiting.{IsFlushed}
-use Rattle.http_front.specs.declared.conn.Next.{Next}
-use Rattle.http_front.specs.declared.conn.Next.TheVariants as next
+use Rattle.http_front.specs.declared.connection.Next.{Next}
+use Rattle.http_front.specs.declared.connection.Next.TheVariants as next
 use Rattle.http_front.specs.declared.reply.Reply.{Reply}
 use Rattle.http_front.specs.Replies.{reply_bytes}
 use Rattle.http_front.specs.Stream.{HasNoMessage, Item, Messages, Taken, Fronts, TellsNext}
 use Rattle.http_front.proofs.TakenLemmas.{Taken-append, Taken-push, Messages-after, Begins-after, rest_of, rest_at_end, all_of, last_message, one_message, whole_message, room_after}
-use Rattle.coverage_server.specs.declared.server.ConnEnd.TheVariants.{Finished, ReadFault, WriteFault}
+use Rattle.coverage_server.specs.declared.server.ConnectionEnd.TheVariants.{Finished, ReadFault, WriteFault}
 use Rattle.coverage_server.specs.Runs.{Placed, MessageStep, Run}
 use Rattle.coverage_server.specs.Leaving.{Continues}
 use Rattle.coverage_server.specs.Serves.{Ends, ServesConnection}

@@ -7,7 +7,7 @@ use Rattle.arr_core.specs.Stores.{Store}
 use Rattle.block_file.specs.declared.header.State.TheVariants.{Open}
 use Rattle.disk_face.specs.Disk.{Rose, Tells}
 use Rattle.stream_face.specs.Views.{SourceView, SinkView}
-use Rattle.coverage_server.specs.declared.server.ConnEnd.{ConnEnd}
+use Rattle.coverage_server.specs.declared.server.ConnectionEnd.{ConnectionEnd}
 use Rattle.block_file.specs.declared.fault.CloseFault.{CloseFault}
 use Rattle.block_file.specs.declared.fault.CloseFault.TheVariants as closing
 use Rattle.coverage_server.specs.Damage.{IsIntactIn, IsIntactNamed}
@@ -223,13 +223,13 @@ module _ {R W : Type 0} where
         take_long (suc i) (a ∷ first) (b ∷ second) e = ap suc (take_long i first second (omega (arith, e)))
 
     -- one connection more is served
-    pub served-more : (xs ys : List (R × W)) (i : ℕ) (d y : R × W) (old mid new : Placed) (conn : ConnEnd)
+    pub served-more : (xs ys : List (R × W)) (i : ℕ) (d y : R × W) (old mid new : Placed) (end : ConnectionEnd)
         → length ys ≡ length xs → i < length xs → drop i ys ≡ drop i xs
         → ServesAll (ends_all source sink (take i xs) (take i ys)) old mid
-        → TellsEnd (ends_of source sink (get_or ys i d).0 y.0 (get_or ys i d).1 y.1) conn
-        → ServesConnection (ends_of source sink (get_or ys i d).0 y.0 (get_or ys i d).1 y.1) mid new conn
+        → TellsEnd (ends_of source sink (get_or ys i d).0 y.0 (get_or ys i d).1 y.1) end
+        → ServesConnection (ends_of source sink (get_or ys i d).0 y.0 (get_or ys i d).1 y.1) mid new end
         → ServesAll (ends_all source sink (take (i + 1) xs) (take (i + 1) (slice_set ys i y))) old new
-    served-more xs ys i d y old mid new conn long inside e x told c =
+    served-more xs ys i d y old mid new end long inside e x told c =
         subst (λ (ends : List Ends). ServesAll ends old new) (sym (ends-more xs ys i d y long inside e))
         (all-append (ends_all source sink (take i xs) (take i ys))
-        (ends_of source sink (get_or ys i d).0 y.0 (get_or ys i d).1 y.1 ∷ []) old mid new x (new, conn, told, c, refl))
+        (ends_of source sink (get_or ys i d).0 y.0 (get_or ys i d).1 y.1 ∷ []) old mid new x (new, end, told, c, refl))

@@ -11,7 +11,7 @@ use Rattle.std.proofs.lemmas.List.Elements.{All-head, All-tail}
 use Rattle.raster_store.specs.Snapshots.{held_for, without_job}
 use Rattle.raster_store.specs.Views.{SnapshotView}
 use Rattle.job_desk.specs.declared.job.Job.{Job as Held}
-use Rattle.job_desk.specs.Desks.{DeskView, IsDesk, IsJob, IsFull, IsSubmitted, IsFetched, replaced}
+use Rattle.job_desk.specs.Desks.{DeskView, IsDesk, IsJob, replaced}
 use Rattle.job_desk.specs.Desks as desks
 use Rattle.job_desk.specs.Steps.{IsChanged, IsLowered, IsHeldUp, IsRefusedStep, StepReports, Ends}
 use Rattle.job_desk.specs.declared.error.StepError.{StepError}

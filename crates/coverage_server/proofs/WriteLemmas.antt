@@ -39,7 +39,7 @@ some_and : {X : Type 0} (o : Option X) (P Q : X → Type 0) → ((x : X) → P x
 some_and None P Q f h = absurd h
 some_and (Some x) P Q f h = f x h
 
-some_there : {X : Type 0} (o : Option X) (P Q : X → Type 0) → ((x : X) → o ≡ Some x → P x → Q x) → IsSomeAnd o P
+pub some_there : {X : Type 0} (o : Option X) (P Q : X → Type 0) → ((x : X) → o ≡ Some x → P x → Q x) → IsSomeAnd o P
     → IsSomeAnd o Q
 some_there None P Q f h = absurd h
 some_there (Some x) P Q f h = f x refl h

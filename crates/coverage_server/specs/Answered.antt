@@ -24,7 +24,8 @@ use Rattle.coverage_server.specs.declared.error.AnswerError.TheVariants.{Named, 
 
 -- A reply or a refusal as a step allows it. A disk fault is told only where the disk's count of failures rose, want of
 -- room only where it is wanting, and damage only where a tile is in the way.
-abbrev pub Answered : (Store → Reply → Store → Type 0) → Type 0 → Type 0 → ServerView → ServerView → Result Reply AnswerError → Type 0
+abbrev pub Answered : (Store → Reply → Store → Type 0) → Type 0 → Type 0 → ServerView → ServerView
+    → Result Reply AnswerError → Type 0
 Answered step lacks spoils old new (Ok reply) = IsTrue old.honest → step old.store reply new.store
 Answered step lacks spoils old new (Err (Named refusal)) =
     IsTrue old.honest → step old.store (Refused (number_of refusal)) new.store
@@ -33,7 +34,8 @@ Answered step lacks spoils old new (Err DiskFault) = Rose old.failures new.failu
 Answered step lacks spoils old new (Err NoRoom) = IsTrue old.honest → lacks
 Answered step lacks spoils old new (Err Damaged) = IsTrue old.honest → spoils
 
--- What an answer tells of the disk's failures: a fault only where their count rose, and any other answer leaves it as it was.
+-- What an answer tells of the disk's failures: a fault only where their count rose, and any other answer leaves it as
+-- it was.
 abbrev pub TellsFailures : {T : Type 0} → Result T AnswerError → ServerView → ServerView → Type 0
 TellsFailures result old new = Tells (IsErrOf result DiskFault) old.failures new.failures
 
@@ -74,12 +76,15 @@ Stays old new = IsTrue old.coverages.honest → (s : State) → Represents old s
 abbrev pub Hinders : (State → Type 0) → SessionView → Type 0
 Hinders spoils old = IsTrue old.coverages.honest → (s : State) → Represents old s → spoils s
 
--- A reply or a refusal as a step of the machine allows it. A failure, which is told as above, leaves the state as it was.
-abbrev pub AnsweredIn : (State → Reply → State → Type 0) → Type 0 → (State → Type 0) → SessionView → SessionView → Result Reply AnswerError → Type 0
+-- A reply or a refusal as a step of the machine allows it. A failure, which is told as above, leaves the state as it
+-- was.
+abbrev pub AnsweredIn : (State → Reply → State → Type 0) → Type 0 → (State → Type 0) → SessionView → SessionView
+    → Result Reply AnswerError → Type 0
 AnsweredIn step lacks spoils old new (Ok reply) = Moves step old reply new
 AnsweredIn step lacks spoils old new (Err (Named refusal)) = Moves step old (Refused (number_of refusal)) new
 AnsweredIn step lacks spoils old new (Err NoMemory) = Stays old new
-AnsweredIn step lacks spoils old new (Err DiskFault) = Rose old.coverages.failures new.coverages.failures × Stays old new
+AnsweredIn step lacks spoils old new (Err DiskFault) =
+    Rose old.coverages.failures new.coverages.failures × Stays old new
 AnsweredIn step lacks spoils old new (Err NoRoom) = (IsTrue old.coverages.honest → lacks) × Stays old new
 AnsweredIn step lacks spoils old new (Err Damaged) = Hinders spoils old × Stays old new
 

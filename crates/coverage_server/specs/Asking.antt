@@ -32,7 +32,8 @@ QueryAnswer = Result (List ℕ) Refusal
 -- the stored number of a field of a coverage at a point, and 0 where there is none
 abbrev pub number_in : Option Coverage → ℕ → List ℤ → ℤ
 number_in None field point = pos 0
-number_in (Some c) field point = if nat_lt field (length c.fields) && is_inside c.domain point then value_at c field point else pos 0
+number_in (Some c) field point =
+    if nat_lt field (length c.fields) && is_inside c.domain point then value_at c field point else pos 0
 
 -- the coverage of the store that has the name of the one at a place
 abbrev pub listed_in : Store → List Signature → ℕ → Option Coverage
@@ -58,21 +59,26 @@ typed_answer (Err refusal) = Err (type_refusal refusal)
 
 -- a query higher than 64 is too deep; else its types over the store's coverages count
 abbrev pub tree_typed : Store → QueryTree → TypedAnswer
-tree_typed store q = if nat_le (query_height q) max_height then typed_answer (typ_query (map signature_of store) q) else Err TooDeep
+tree_typed store q = if nat_le (query_height q) max_height then typed_answer (typ_query (map signature_of store) q) else
+    Err TooDeep
 
--- Tokens of which more than 512 brackets are open at once, or with more than 256 words `condense` and `coverage`, are too
--- deep; else they spell nothing and are bad syntax, else they spell a query.
+-- Tokens of which more than 512 brackets are open at once, or with more than 256 words `condense` and `coverage`, are
+-- too deep; else they spell nothing and are bad syntax, else they spell a query.
 pub data TokensTyped : Store → List Tok → TypedAnswer → Type 0 where
   too_deep : {store : Store} {ts : List Tok} → ¬ (IsWithinLimits ts) → TokensTyped store ts (Err TooDeep)
-  no_query : {store : Store} {ts : List Tok} → IsWithinLimits ts → ((q : QueryTree) → ¬ (IsSpelled ts q)) → TokensTyped store ts (Err BadSyntax)
-  query : {store : Store} {ts : List Tok} (q : QueryTree) → IsWithinLimits ts → IsSpelled ts q → TokensTyped store ts (tree_typed store q)
+  no_query : {store : Store} {ts : List Tok} → IsWithinLimits ts → ((q : QueryTree) → ¬ (IsSpelled ts q))
+      → TokensTyped store ts (Err BadSyntax)
+  query : {store : Store} {ts : List Tok} (q : QueryTree) → IsWithinLimits ts → IsSpelled ts q
+      → TokensTyped store ts (tree_typed store q)
 
 -- What a text is, before any cell is read: a text that is too long is a bad value, else it has no tokens and is
 -- refused as its first bytes that are none are, else it has tokens.
 pub data TextTyped : Store → List ℕ → TypedAnswer → Type 0 where
   too_long : {store : Store} {text : List ℕ} → max_query < length text → TextTyped store text (Err BadValue)
-  no_tokens : {store : Store} {text : List ℕ} (e : LexError) → length text ≤ max_query → Refused text e → TextTyped store text (Err (token_refusal e))
-  lexed : {store : Store} {text : List ℕ} {r : TypedAnswer} (pieces : List Piece) → length text ≤ max_query → Lexed 0 text pieces
+  no_tokens : {store : Store} {text : List ℕ} (e : LexError) → length text ≤ max_query → Refused text e
+      → TextTyped store text (Err (token_refusal e))
+  lexed : {store : Store} {text : List ℕ} {r : TypedAnswer} (pieces : List Piece) → length text ≤ max_query
+      → Lexed 0 text pieces
       → TokensTyped store (tokens_of pieces) r → TextTyped store text r
 
 -- a typed query's value over the store's cells; a refusal stays
@@ -86,4 +92,5 @@ TextAnswer store text a = (r : TypedAnswer) × TextTyped store text r × (a ≡ 
 
 -- a text has at most one answer over a store
 abbrev pub HasOneAnswer : Type 0
-HasOneAnswer = (store : Store) (text : List ℕ) (a b : QueryAnswer) → TextAnswer store text a → TextAnswer store text b → a ≡ b
+HasOneAnswer = (store : Store) (text : List ℕ) (a b : QueryAnswer) → TextAnswer store text a → TextAnswer store text b
+    → a ≡ b

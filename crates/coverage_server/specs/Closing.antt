@@ -20,14 +20,15 @@ ClosesFile first size old new = Closes first size old new × TellsVersion Two ne
 pub record IsWritten (content metadata : List ℕ) (indexes : List (List Index)) : Type 0 where
   pub closed : IsClosed content metadata
   pub version : TellsVersion Two content
-  pub apart : (i : ℕ) → i < chain_blocks (length metadata) → listed_all indexes (link (block_at content) (first_of content) i) ≡ 0
+  pub apart : (i : ℕ) → i < chain_blocks (length metadata)
+      → listed_all indexes (link (block_at content) (first_of content) i) ≡ 0
 
 -- on an honest disk the file is closed with what the server held
 abbrev pub WritesHeld : ServerView → ServerView → Type 0
 WritesHeld old new = IsTrue old.honest → IsWritten new.content (metadata_held old) new.indexes
 
--- What bytes are below a server: once a closing has been written they list its coverages, and below a sound one hold its
--- store.
+-- What bytes are below a server: once a closing has been written they list its coverages, and below a sound one hold
+-- its store.
 pub record HoldsClosed (v : ServerView) (content : List ℕ) : Type 0 where
   pub lists : IsWritten content (metadata_held v) v.indexes → IsTrue v.honest → ListsStore content v.store v.indexes
   pub held : IsWritten content (metadata_held v) v.indexes → IsSound v → HoldsStore content v.store

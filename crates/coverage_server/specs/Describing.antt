@@ -8,7 +8,8 @@ use Rattle.arr_core.specs.declared.field.Field.{Field}
 
 -- `axis x 0 99`, on a line
 abbrev pub axis_line : Axis → List ℕ
-axis_line a = codes "axis " ++ a.name ++ codes " " ++ signed_decimal a.lo ++ codes " " ++ signed_decimal a.hi ++ codes "\n"
+axis_line a = codes "axis " ++ a.name ++ codes " " ++ signed_decimal a.lo ++ codes " " ++ signed_decimal a.hi ++ codes
+    "\n"
 
 -- `field v i16`, on a line
 abbrev pub field_line : Field → List ℕ

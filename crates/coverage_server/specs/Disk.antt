@@ -14,8 +14,8 @@ use Rattle.block_file.specs.declared.fault.OpenFault.{OpenFault}
 use Rattle.block_file.specs.declared.fault.OpenFault.TheVariants as opening
 use Rattle.raster_store.specs.Views.{Index, AreBelow, AreIntact, coverages_in, listed_all}
 
--- What a disk tells: the bytes that it holds, whether it is honest, how many of its calls have failed, and how often an honest
--- one was read past its end.
+-- What a disk tells: the bytes that it holds, whether it is honest, how many of its calls have failed, and how often an
+-- honest one was read past its end.
 pub record DiskView : Type 0 where
   pub content : List ℕ
   pub honest : Bool
@@ -46,12 +46,13 @@ pub record IsTileBlock (content : List ℕ) (size : ℕ) (indexes : List (List I
 
 -- A closed file: its metadata is that of these signatures and indexes, which are such as a file of its version has, and
 -- which list tiles of the domains, in blocks of their own.
-pub record IsLaidOut (content metadata : List ℕ) (signatures : List Signature) (indexes : List (List Index)) : Type 0 where
-  pub closed : IsClosed content metadata
-  pub written : IsMetadata metadata signatures indexes
-  pub version : (version : Version) → TellsVersion version content → IsOfVersion version signatures indexes
-  pub tiles : AreTiles signatures indexes
-  pub blocks : (k : ℕ) → 0 < listed_all indexes k → IsTileBlock content (length metadata) indexes k
+pub record IsLaidOut (content metadata : List ℕ) (signatures : List Signature) (indexes : List (List Index)) : Type 0
+  where
+    pub closed : IsClosed content metadata
+    pub written : IsMetadata metadata signatures indexes
+    pub version : (version : Version) → TellsVersion version content → IsOfVersion version signatures indexes
+    pub tiles : AreTiles signatures indexes
+    pub blocks : (k : ℕ) → 0 < listed_all indexes k → IsTileBlock content (length metadata) indexes k
 
 -- a closed file of these coverages, whether or not their tiles spell cells
 pub record ListsCoverages (content : List ℕ) (store : Store) (indexes : List (List Index)) : Type 0 where
@@ -62,7 +63,8 @@ pub record ListsCoverages (content : List ℕ) (store : Store) (indexes : List (
 
 -- without a byte a disk lists no coverages, else it is the closed file of those that it lists
 abbrev pub ListsStore : List ℕ → Store → List (List Index) → Type 0
-ListsStore content store indexes = ((content ≡ []) × (store ≡ []) × (indexes ≡ [])) ⊎ ListsCoverages content store indexes
+ListsStore content store indexes =
+    ((content ≡ []) × (store ≡ []) × (indexes ≡ [])) ⊎ ListsCoverages content store indexes
 
 -- the disk lists these coverages, and no others
 pub record Lists (content : List ℕ) (store : Store) (indexes : List (List Index)) : Type 0 where
@@ -91,7 +93,8 @@ IsWant opening.Damaged = ⊥
 IsWant opening.NotAStore = ⊥
 IsWant opening.NotClosed = ⊥
 
--- Why a disk without a failure is not opened: it is no store file; it was not closed; or it departs from the format in another way.
+-- Why a disk without a failure is not opened: it is no store file; it was not closed; or it departs from the format in
+-- another way.
 abbrev pub IsNoStore : List ℕ → OpenFault → Type 0
 IsNoStore content opening.NoMemory = ⊤
 IsNoStore content opening.DiskFault = ⊤

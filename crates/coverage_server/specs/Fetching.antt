@@ -14,9 +14,9 @@ use Rattle.tile_exec.specs.Standing.{most_fetched}
 use Rattle.wcps_mean.specs.Answer.{answer}
 use Rattle.wcps_types.specs.Work.{query_work}
 use Rattle.wcps_types.specs.Typed.{TypedTree}
-use Rattle.http_front.specs.declared.conn.Next.{Next}
-use Rattle.http_front.specs.declared.conn.Next.TheVariants.{Message, Ended, ReadFault}
-use Rattle.http_front.specs.declared.conn.Next.TheVariants as next
+use Rattle.http_front.specs.declared.connection.Next.{Next}
+use Rattle.http_front.specs.declared.connection.Next.TheVariants.{Message, Ended, ReadFault}
+use Rattle.http_front.specs.declared.connection.Next.TheVariants as next
 use Rattle.http_front.specs.declared.reply.Reply.{Reply}
 use Rattle.http_front.specs.declared.reply.Reply.TheVariants.{Text, Csv, Refused}
 use Rattle.kvp_front.specs.Requests.{Asks, insert_coverage, update_coverage, delete_coverage, list_coverages, describe_coverage, process_coverages, submit_query, step_job, fetch_job, cancel_job, expand_template, process_template, spelled}
@@ -28,8 +28,8 @@ use Rattle.coverage_server.specs.Leaving.{refusal_number}
 use Rattle.coverage_server.specs.Templates.{expansion}
 use Rattle.coverage_server.specs.Views.{ServerView, SessionView, session}
 
--- A plan of a typed query reads the query's coverages, gives its answer over any cells, and has few units. No bind is left in
--- it that could be inlined, and no fold that could be a pass.
+-- A plan of a typed query reads the query's coverages, gives its answer over any cells, and has few units. No bind is
+-- left in it that could be inlined, and no fold that could be a pass.
 pub record IsPlanOf (q : TypedTree) (plan : PlanTree) : Type 0 where
   pub placed : IsPlan plan
   pub coverages : plan.coverages ≡ q.coverages
@@ -92,7 +92,8 @@ FetchesForText text old new result = UnlessFails result (FetchesNone old new ⊎
 abbrev pub FetchesForTemplate : {A : Type 0} → Template → ServerView → ServerView → Result A AnswerError → Type 0
 FetchesForTemplate template old new result = UnlessFails result (FetchesNone old new ⊎ FetchesTemplate template old new)
 
-abbrev pub FetchesForJob : {A : Type 0} → ℕ → ServerView → DeskView → ServerView → DeskView → Result A AnswerError → Type 0
+abbrev pub FetchesForJob : {A : Type 0} → ℕ → ServerView → DeskView → ServerView → DeskView → Result A AnswerError
+    → Type 0
 FetchesForJob number old desk new later result =
     UnlessFails result (FetchesNone old new ⊎ FetchesUnits number (session old desk) (session new later))
 

@@ -42,8 +42,8 @@ pub record AreHeldOnce (x : SnapshotView) (asked : List Signature) : Type 0 wher
 abbrev pub HoldsPlan : List SnapshotView → Held → Type 0
 HoldsPlan held j = 0 < j.left → IsSomeAnd (held_for j.number held) (λ x. AreHeldOnce x (plan_of j.exec).coverages)
 
--- Between two requests coverages are held for the jobs that have units left, in their order, and for nothing else; for each
--- of them those of its plan, each once. No job has number 0.
+-- Between two requests coverages are held for the jobs that have units left, in their order, and for nothing else; for
+-- each of them those of its plan, each once. No job has number 0.
 pub record IsHolding (desk : DeskView) (held : List SnapshotView) : Type 0 where
   pub jobs : map (λ (x : SnapshotView). x.job) held ≡ reading desk.jobs
   pub plans : All (HoldsPlan held) desk.jobs

@@ -18,8 +18,8 @@ use Rattle.coverage_server.specs.declared.error.AnswerError.{AnswerError}
 use Rattle.coverage_server.specs.declared.error.AnswerError.TheVariants.{Named, NoMemory, DiskFault, NoRoom, Damaged}
 use Rattle.coverage_server.specs.Views.{ServerView, SessionView, IsSound, IsUnchanged, still_of, without_held}
 
--- What every call leaves: what was sound is so, the header tells what it told, the disk is as honest as it was, its count of
--- failures has not fallen, and an honest one was read nowhere past its end.
+-- What every call leaves: what was sound is so, the header tells what it told, the disk is as honest as it was, its
+-- count of failures has not fallen, and an honest one was read nowhere past its end.
 pub record Continues (old new : ServerView) : Type 0 where
   pub sound : IsSound old → IsSound new
   pub header : KeepsHeader old.content new.content
@@ -27,8 +27,8 @@ pub record Continues (old new : ServerView) : Type 0 where
   pub no_fewer : old.failures ≤ new.failures
   pub overreads : new.overreads ≡ old.overreads
 
--- What a call leaves that changes the coverages in memory alone: what was sound is so, the disk, what is held for jobs and
--- the count of tiles that were fetched are as they were.
+-- What a call leaves that changes the coverages in memory alone: what was sound is so, the disk, what is held for jobs
+-- and the count of tiles that were fetched are as they were.
 pub record KeepsDisk (old new : ServerView) : Type 0 where
   pub sound : IsSound old → IsSound new
   pub content : new.content ≡ old.content
@@ -62,7 +62,8 @@ pub record IsStill (was is : Held) : Type 0 where
 abbrev pub LeavesJob : ℕ → DeskView → DeskView → Type 0
 LeavesJob n old new = (new ≡ old) ⊎ IsChanged IsStill n old new
 
--- The jobs are as they were; or the refusal is the fault that was the answer of a job that was done, and which was fetched.
+-- The jobs are as they were; or the refusal is the fault that was the answer of a job that was done, and which was
+-- fetched.
 abbrev pub LeavesFetched : ℕ → ℕ → DeskView → DeskView → Type 0
 LeavesFetched n code old new =
     (new ≡ old) ⊎ ((f : PointFault) × (code ≡ number_of (fault_refusal f)) × IsFetched n (given.Refused f) old new)

@@ -22,3 +22,4 @@ pub mod Represents
 pub mod Holding
 pub mod Leaving
 pub mod Fetching
+pub mod Growing

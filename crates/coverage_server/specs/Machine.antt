@@ -1,5 +1,6 @@
--- The machine: its state is a store of coverages, and jobs, each with the answer that its query had when it was submitted. A request
--- leads to a reply and a next state; the refusals come in the order in which they stand here, and leave the state as it was.
+-- The machine: its state is a store of coverages, and jobs, each with the answer that its query had when it was
+-- submitted. A request leads to a reply and a next state; the refusals come in the order in which they stand here, and
+-- leave the state as it was.
 use Rattle.std.specs.Prelude.{◌≡◌, ℕ, ◌+◌, ◌-◌, ◌*◌, ◌<◌, ◌≤◌, ◌⊎◌, nat_eq, cond, ℤ, List, [], ◌∷◌, ◌++◌, length, map, replicate, slice_get, All, Option, Some, Ok, Err, MatchOption, codes, string_bytes, FitsSigned}
 use Rattle.std.specs.Fmt.{decimal}
 use Rattle.std.specs.Int.{w32}
@@ -38,7 +39,8 @@ pub record Job : Type 0 where
   pub left : ℕ
   pub answer : QueryAnswer
 
--- the coverages, the jobs in the order of their numbers, and the number of the next one: none where the last `u64` was given
+-- the coverages, the jobs in the order of their numbers, and the number of the next one: none where the last `u64` was
+-- given
 pub record State : Type 0 where
   pub store : Store
   pub jobs : List Job
@@ -64,7 +66,8 @@ Does next reply new = IsText reply (codes "ok\n") × (new ≡ next)
 
 -- one refusal where a condition fails, and what comes next where it holds
 abbrev pub Unless : {S : Type 0} → Type 0 → Refusal → (S → Reply → S → Type 0) → S → Reply → S → Type 0
-Unless condition refusal next old reply new = ((¬ condition) × Refuses refusal old reply new) ⊎ (condition × next old reply new)
+Unless condition refusal next old reply new =
+    ((¬ condition) × Refuses refusal old reply new) ⊎ (condition × next old reply new)
 
 -- the axes that intervals spell
 abbrev pub axis_of : Interval → Axis
@@ -85,14 +88,15 @@ SpellDomain intervals = All FitBounds intervals × IsDomain (axes_of intervals)
 abbrev pub SpellWhole : List Interval → Type 0
 SpellWhole intervals = SpellDomain intervals × (0 < length intervals)
 
--- InsertCoverage: CoverageExists for a name that is there, BadDomain for what is no domain, BadField for what are no fields,
--- TooManyCoverages where as many are held as may be
+-- InsertCoverage: CoverageExists for a name that is there, BadDomain for what is no domain, BadField for what are no
+-- fields, TooManyCoverages where as many are held as may be
 abbrev pub Inserts : List ℕ → List Interval → List Field → Store → Reply → Store → Type 0
 Inserts name intervals fields old reply new =
     MatchOption (found name old)
     (Unless (SpellWhole intervals) BadDomain
     (Unless (AreFields fields) BadField
-    (Unless (length old < max_coverages) TooManyCoverages (λ before. Does (inserted name (axes_of intervals) fields before)))) old reply new)
+    (Unless (length old < max_coverages) TooManyCoverages
+    (λ before. Does (inserted name (axes_of intervals) fields before)))) old reply new)
     (λ c. Refuses CoverageExists old reply new)
 
 -- the new numbers stand in the box
@@ -181,7 +185,8 @@ job_of number jobs = find (λ (j : Job). nat_eq j.number number) jobs
 -- the jobs where the one with a number has so many units left
 abbrev pub with_left : ℕ → ℕ → List Job → List Job
 with_left number left [] = []
-with_left number left (j ∷ jobs) = cond (nat_eq j.number number) (record j { left = left } ∷ jobs) (j ∷ with_left number left jobs)
+with_left number left (j ∷ jobs) =
+    cond (nat_eq j.number number) (record j { left = left } ∷ jobs) (j ∷ with_left number left jobs)
 
 -- the jobs without the one with a number
 abbrev pub without : ℕ → List Job → List Job
@@ -192,19 +197,26 @@ without number (j ∷ jobs) = cond (nat_eq j.number number) jobs (j ∷ without 
 abbrev pub with_jobs : State → List Job → State
 with_jobs old jobs = record { store = old.store; jobs = jobs; next = old.next }
 
--- A typed query becomes the last job, with the next number and any number of units from 1 to its combinations times two more than
--- its work. Its answer is the one over the store as it is.
+-- A typed query becomes the last job, with the next number and any number of units from 1 to its combinations times two
+-- more than its work. Its answer is the one over the store as it is.
 abbrev pub Adds : TypedTree → ℕ → State → Reply → State → Type 0
 Adds q number old reply new =
     (left : ℕ) × (1 ≤ left) × (left ≤ length q.combinations * (2 + query_work q.combinations))
     × IsText reply (codes "job " ++ decimal number ++ codes " left " ++ decimal left ++ codes "\n")
     × (new ≡ record {
       store = old.store;
-      jobs = old.jobs ++ record { number = number; names = map (λ (c : Signature). c.name) q.coverages; left = left; answer = evaluated old.store (Ok q) } ∷ [];
+      jobs = old.jobs ++ record {
+        number = number;
+        names = map (λ (c : Signature). c.name) q.coverages;
+        left =
+            left;
+        answer = evaluated old.store (Ok q);
+      } ∷ [];
       next = number_after number;
     })
 
--- SubmitQuery: the refusals of the query's text, and then TooManyJobs where as many jobs are held as may be or no number is left
+-- SubmitQuery: the refusals of the query's text, and then TooManyJobs where as many jobs are held as may be or no
+-- number is left
 abbrev pub SubmitsTyped : TypedAnswer → State → Reply → State → Type 0
 SubmitsTyped (Err refusal) old reply new = Refuses refusal old reply new
 SubmitsTyped (Ok q) old reply new =
@@ -218,14 +230,17 @@ Submits query old reply new = (r : TypedAnswer) × TextTyped old.store query r �
 abbrev pub StepsJob : ℕ → ℕ → State → Reply → State → Type 0
 StepsJob number units old reply new =
     MatchOption (job_of number old.jobs) (Refuses NoSuchJob old reply new)
-    (λ j. IsText reply (codes "left " ++ decimal (j.left - units) ++ codes "\n") × (new ≡ with_jobs old (with_left number (j.left - units) old.jobs)))
+    (λ j. IsText reply (codes "left " ++ decimal (j.left - units) ++ codes "\n")
+    × (new ≡ with_jobs old (with_left number (j.left - units) old.jobs)))
 
--- FetchJob: NoSuchJob for a number of no job, NotReady for a job that has units left; else its answer, a fault included, and
--- the job is dropped
+-- FetchJob: NoSuchJob for a number of no job, NotReady for a job that has units left; else its answer, a fault
+-- included, and the job is dropped
 abbrev pub Fetches : ℕ → State → Reply → State → Type 0
 Fetches number old reply new =
     MatchOption (job_of number old.jobs) (Refuses NoSuchJob old reply new)
-    (λ j. Unless (j.left ≡ 0) NotReady (λ before told after. Tells j.answer told × (after ≡ with_jobs before (without number before.jobs))) old reply new)
+    (λ j. Unless (j.left ≡ 0) NotReady
+    (λ before told after. Tells j.answer told × (after ≡ with_jobs before (without number before.jobs))) old reply
+    new)
 
 -- CancelJob: NoSuchJob for a number of no job; else the job is dropped
 abbrev pub Cancels : ℕ → State → Reply → State → Type 0

@@ -18,11 +18,13 @@ use Rattle.coverage_server.specs.Disk.{AreTiles, DiskView, IsLaidOut, Lists}
 use Rattle.coverage_server.specs.Views.{ServerView, free_in}
 
 -- what metadata of a file of a version lists, and nothing else: without a byte no coverage
-pub record IsListed (version : Version) (metadata : List ℕ) (signatures : List Signature) (indexes : List (List Index)) : Type 0 where
+pub record IsListed (version : Version) (metadata : List ℕ) (signatures : List Signature)
+    (indexes : List (List Index)) : Type 0 where
   pub new_file : metadata ≡ [] → (signatures ≡ []) × (indexes ≡ [])
   pub read : 0 < length metadata → IsMetadata metadata signatures indexes
   pub of_version : 0 < length metadata → IsOfVersion version signatures indexes
-  pub only : 0 < length metadata → (s : List Signature) (i : List (List Index)) → IsMetadata metadata s i → IsOfVersion version s i
+  pub only : 0 < length metadata → (s : List Signature) (i : List (List Index)) → IsMetadata metadata s i
+      → IsOfVersion version s i
       → (s ≡ signatures) × (i ≡ indexes)
 
 -- The blocks that indexes list were claimed, and are in use as often as they are listed besides.
@@ -52,7 +54,8 @@ pub record Attaches {B : Type 0} (s : BlocksState) (signatures : List Signature)
   pub tiles : AreTiles signatures listed
 
 -- What metadata lists was claimed, and as many blocks are free as the metadata takes.
-pub record ClaimsLayout (version : Version) (metadata : List ℕ) (signatures : List Signature) (indexes : List (List Index)) (old new : List ℕ) : Type 0 where
+pub record ClaimsLayout (version : Version) (metadata : List ℕ) (signatures : List Signature)
+    (indexes : List (List Index)) (old new : List ℕ) : Type 0 where
   pub listed : IsListed version metadata signatures indexes
   pub claims : ClaimsListed indexes old new
   pub room : reserve (length (catalogue_bytes signatures)) indexes ≤ free_in indexes []
@@ -63,7 +66,8 @@ ClaimsRead version metadata old new m = ClaimsLayout version metadata m.catalogu
 
 -- no metadata of any signatures and indexes is laid out
 abbrev pub IsNotLaidOut : List ℕ → Type 0
-IsNotLaidOut content = (metadata : List ℕ) (signatures : List Signature) (indexes : List (List Index)) → IsLaidOut content metadata signatures indexes → ⊥
+IsNotLaidOut content = (metadata : List ℕ) (signatures : List Signature) (indexes : List (List Index))
+    → IsLaidOut content metadata signatures indexes → ⊥
 
 -- metadata is none of any signatures and indexes such as a file of a version has
 abbrev pub IsUnread : Version → List ℕ → Type 0

@@ -1,5 +1,6 @@
--- Which state of the machine a server represents, and that an answer is a step of the machine. The answer of a job is not stored while it runs: it is the one that the plan of its
--- executor has over the cells for which the executor stands.
+-- Which state of the machine a server represents, and that an answer is a step of the machine. The answer of a job is
+-- not stored while it runs: it is the one that the plan of its executor has over the cells for which the executor
+-- stands.
 use Rattle.std.specs.Prelude.{◌≡◌, ◌⊎◌, ℕ, ◌<◌, ℤ, List, [], ◌∷◌, All, IsSomeAnd, IsTrue}
 use Rattle.arr_core.specs.declared.refusal.Refusal.TheVariants.{Damaged}
 use Rattle.http_front.specs.declared.reply.Reply.{Reply}
@@ -20,8 +21,8 @@ use Rattle.coverage_server.specs.Views.{SessionView}
 abbrev pub IsReading : SnapshotView → (ℕ → ℕ → List ℤ → ℤ) → Held → Type 0
 IsReading x cells held = cells ≡ cells_of x.coverages (plan_of held.exec).coverages
 
--- A job of the desk stands for one of the machine: its executor stands for some cells, over which its plan has the job's answer. While
--- it has units left these are the cells of what is held for it.
+-- A job of the desk stands for one of the machine: its executor stands for some cells, over which its plan has the
+-- job's answer. While it has units left these are the cells of what is held for it.
 pub record StandsAs (snapshots : List SnapshotView) (held : Held) (job : Job) : Type 0 where
   pub number : job.number ≡ held.number
   pub names : job.names ≡ held.names
@@ -54,15 +55,15 @@ pub record Places (v : SessionView) (p : Placed) : Type 0 where
   pub blocks : IsTrue v.coverages.honest → AreHeldWhole v.coverages.content v.coverages.held
   pub failures : p.failures ≡ v.coverages.failures
 
--- Refinement: on an honest disk each state of the machine that the server represents, with its tiles where they lie, leads
--- by a step to one that it then represents.
+-- Refinement: on an honest disk each state of the machine that the server represents, with its tiles where they lie,
+-- leads by a step to one that it then represents.
 abbrev pub Refines : (Placed → Placed → Type 0) → SessionView → SessionView → Type 0
 Refines step old new =
     IsTrue old.coverages.honest → (p : Placed) → Places old p → (q : Placed) × Places new q × step p q
 
--- A reply of the machine, or a failure: want of memory at any time, a disk fault where the disk's count of failures rose or
--- stands at its last value, want of room where the request asks for more blocks than are free, and damage where a tile that
--- is in the way of the request is not spelled.
+-- A reply of the machine, or a failure: want of memory at any time, a disk fault where the disk's count of failures
+-- rose or stands at its last value, want of room where the request asks for more blocks than are free, and damage where
+-- a tile that is in the way of the request is not spelled.
 abbrev pub Steps : Asks → SessionView → Placed → Reply → Placed → Type 0
 Steps asks old p reply q =
     ServesPlaced asks p reply q ⊎ Fails (LacksRoomAt asks p) p reply q

@@ -1,6 +1,6 @@
 -- Runs of the machine. Beside its state a run carries where the tiles lie, so that want of room is told only where a
--- request asks for more blocks than are free; which coverages are intact, so that damage is told only of others; and how
--- many calls of the disk have failed, so that a disk fault is told where one failed, and only there.
+-- request asks for more blocks than are free; which coverages are intact, so that damage is told only of others; and
+-- how many calls of the disk have failed, so that a disk fault is told where one failed, and only there.
 use Rattle.std.specs.Prelude.{◌≡◌, ◌⊎◌, ℕ, nat_eq, nat_lt, cond, List, [], ◌∷◌, ◌++◌, map, All, Contains, Option, Result, Ok, Err, IsSomeAnd}
 use Rattle.std.specs.List.{filter}
 use Rattle.arr_core.specs.declared.refusal.Refusal.{Refusal}
@@ -25,8 +25,8 @@ use Rattle.coverage_server.specs.Room.{LacksRoom}
 use Rattle.coverage_server.specs.Templates.{expansion}
 
 -- The state, where its tiles lie, the names of coverages that are intact, each of whose tiles is spelled: those of the
--- store, and for each job that coverages are held for, by its number, those that were when it came; and the disk's count of
--- failures.
+-- store, and for each job that coverages are held for, by its number, those that were when it came; and the disk's
+-- count of failures.
 pub record Placed : Type 0 where
   pub state : State
   pub layout : Layout
@@ -122,7 +122,8 @@ HoldsNamesBy asks (Text text) next intact old new = HoldsNames asks next intact 
 HoldsNamesBy asks (Csv text) next intact old new = HoldsNames asks next intact old new
 HoldsNamesBy asks (Refused code) next intact old new = new ≡ old
 
--- what the machine does, and what becomes of the layout and of the coverages that are intact; no call of the disk failed
+-- what the machine does, and what becomes of the layout and of the coverages that are intact; no call of the disk
+-- failed
 abbrev pub ServesPlaced : Asks → Placed → Reply → Placed → Type 0
 ServesPlaced asks old reply new =
     Serves asks old.state reply new.state
@@ -185,9 +186,9 @@ abbrev pub MessageStep : Placed → Result (List ℕ) Refusal → Reply → Plac
 MessageStep old (Ok pairs) reply new = SpelledStep (spelled pairs) old reply new
 MessageStep old (Err refusal) reply new = Refuses refusal old reply new ⊎ Refuses NoMemory old reply new
 
--- The messages lead from one state to the other, and these are the bytes of the reply to each. A disk fault is among them
--- where a call of the disk failed for that message, and only there; damage only where it may be in the way, and want of room
--- only where it is wanting.
+-- The messages lead from one state to the other, and these are the bytes of the reply to each. A disk fault is among
+-- them where a call of the disk failed for that message, and only there; damage only where it may be in the way, and
+-- want of room only where it is wanting.
 abbrev pub Run : Placed → List Item → List (List ℕ) → Placed → Type 0
 Run old [] [] new = new ≡ old
 Run old (item ∷ items) (bytes ∷ replies) new =

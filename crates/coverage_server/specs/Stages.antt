@@ -89,8 +89,8 @@ GivesValues answered (Err Damaged) = ⊤
 abbrev pub GivesAnswer : TypedTree → ServerView → Result (String Global) AnswerError → Type 0
 GivesAnswer q v result = IsTrue v.honest → GivesValues (evaluated v.store (Ok q)) result
 
--- A failure while a query is answered: a disk fault is told only where the disk's count of failures rose, damage only where a
--- tile of a coverage that it reads is not spelled, and want of room never.
+-- A failure while a query is answered: a disk fault is told only where the disk's count of failures rose, damage only
+-- where a tile of a coverage that it reads is not spelled, and want of room never.
 abbrev pub FailsReading : List Signature → ServerView → ServerView → AnswerError → Type 0
 FailsReading asked old new (Named refusal) = ⊤
 FailsReading asked old new NoMemory = ⊤

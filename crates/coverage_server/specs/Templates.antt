@@ -21,8 +21,8 @@ abbrev pub params_of : Template → Params
 params_of t = record { layer = layer_of t.layer; second = option_map layer_of t.second; radius = t.radius }
 
 -- The text of the query over the coverages of the store, or the first refusal: NoSuchTemplate for a name of none,
--- NoSuchCoverage for a layer whose coverage is not there, the second one's where the template takes it, and BadParameter for
--- parameters that do not suit the coverages.
+-- NoSuchCoverage for a layer whose coverage is not there, the second one's where the template takes it, and
+-- BadParameter for parameters that do not suit the coverages.
 abbrev pub expansion : Template → Store → Answer (List ℕ)
 expansion t store = as_text (asked t.name (params_of t) (signatures_of store))
 

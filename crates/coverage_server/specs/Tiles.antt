@@ -23,7 +23,8 @@ abbrev pub held_or : Option SnapshotView → Store → Store
 held_or None store = store
 held_or (Some x) store = x.coverages
 
--- What a number reads: the coverages that are held for it, and for number 0 those of the store as it is where nothing is.
+-- What a number reads: the coverages that are held for it, and for number 0 those of the store as it is where nothing
+-- is.
 abbrev pub store_for : ℕ → ServerView → Store
 store_for job v = held_or (held_for job v.held) (cond (nat_eq job 0) v.store [])
 

@@ -32,15 +32,19 @@ pub record IsRefusedQuery (store : Store) (o : Operation) (reply : Reply) : Type
   pub refused : typ_query (signatures_of store) query ≡ Err refusal
   pub is : reply ≡ Refused (number_of (type_refusal refusal))
 
--- The reply is the array that the operation gives on the layers of the store, as comma-separated values, or Overflow. Only
--- where the query of its text is not accepted it is the refusal of that, or BadValue where the text is too long for a query.
+-- The reply is the array that the operation gives on the layers of the store, as comma-separated values, or Overflow.
+-- Only where the query of its text is not accepted it is the refusal of that, or BadValue where the text is too long
+-- for a query.
 abbrev pub RepliesArray : Store → Operation → Reply → Type 0
 RepliesArray store o reply =
     Tells (items_answer (array_of (layers_of store) o)) reply ⊎ IsRefusedQuery store o reply
     ⊎ ((max_query < length (text_of o)) × (reply ≡ Refused (number_of BadValue)))
 
--- where a template asks for an operation, over coverages whose numbers have 64 bits, its answer is that of the operation
+-- where a template asks for an operation, over coverages whose numbers have 64 bits, its answer is that of the
+-- operation
 abbrev pub TemplatesAreTomlins : Type 0
 TemplatesAreTomlins =
-    (store : Store) (template : Template) (o : Operation) (reply : Reply) (new : Store) → IsCatalogue (signatures_of store) → AreIntegers (layers_of store)
-    → asked template.name (params_of template) (signatures_of store) ≡ Ok o → AnswersTemplate template store reply new → RepliesArray store o reply
+    (store : Store) (template : Template) (o : Operation) (reply : Reply) (new : Store)
+    → IsCatalogue (signatures_of store) → AreIntegers (layers_of store)
+    → asked template.name (params_of template) (signatures_of store) ≡ Ok o → AnswersTemplate template store reply new
+    → RepliesArray store o reply

@@ -10,8 +10,9 @@ use Rattle.raster_store.specs.Views.{Index, SnapshotView, AreIntact, listed_all,
 use Rattle.raster_store.specs.Calls.{signature_of, AreSameSignatures}
 use Rattle.raster_store.specs.Snapshots.{AreIntactSnapshots, AreSameSnapshots}
 
--- The store; the index of each field of each coverage; what is held for jobs; what the disk holds, whether it is honest,
--- how many of its calls have failed, and how often an honest one was read past its end; and how many tiles were fetched.
+-- The store; the index of each field of each coverage; what is held for jobs; what the disk holds, whether it is
+-- honest, how many of its calls have failed, and how often an honest one was read past its end; and how many tiles were
+-- fetched.
 pub record ServerView : Type 0 where
   pub store : Store
   pub indexes : List (List Index)

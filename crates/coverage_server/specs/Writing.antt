@@ -31,7 +31,8 @@ use Rattle.coverage_server.specs.declared.error.AnswerError.TheVariants.{Named, 
 
 -- the axes that intervals spell, or nothing where a bound does not fit 32 bits
 abbrev pub GivesAxes : List Interval → Option (Vec Axis Global) → Type 0
-GivesAxes intervals given = SomeIff (option_map (λ (v : Vec Axis Global). v.items) given) (All FitBounds intervals) (axes_of intervals)
+GivesAxes intervals given = SomeIff (option_map (λ (v : Vec Axis Global). v.items) given) (All FitBounds intervals)
+    (axes_of intervals)
 
 -- this refusal, for this cause, or want of memory
 abbrev pub IsRefusedFor : Refusal → Type 0 → AnswerError → Type 0
@@ -92,14 +93,16 @@ AreRefused kind box (values cells) refusal =
 -- a box of the coverage with a name, and cells for its field at a place
 abbrev pub MayWrite : List ℕ → ℕ → List Axis → Cells → Store → Type 0
 MayWrite name field box cells store =
-    IsSomeAnd (found name store) (λ c. IsBoxOf c.domain box × IsSomeAnd (slice_get c.fields field) (λ (f : Field). AreCellsOf f.kind box cells))
+    IsSomeAnd (found name store) (λ c. IsBoxOf c.domain box
+    × IsSomeAnd (slice_get c.fields field) (λ (f : Field). AreCellsOf f.kind box cells))
 
 -- Cells were written into a box of a field: they may be, and where the disk is honest the store is function update on
 -- the box, and the tiles that it meets take as many blocks as they need.
-pub record WritesCells (name : List ℕ) (field : ℕ) (box : List Axis) (cells : Cells) (old new : ServerView) : Type 0 where
-  pub may : MayWrite name field box cells old.store
-  pub written : IsTrue old.honest → new.store ≡ updated name field box (numbers_of box cells) old.store
-  pub lays : IsTrue old.honest → LaysBox name field box old.store new.store (layout_of old) (layout_of new)
+pub record WritesCells (name : List ℕ) (field : ℕ) (box : List Axis) (cells : Cells) (old new : ServerView) : Type 0
+  where
+    pub may : MayWrite name field box cells old.store
+    pub written : IsTrue old.honest → new.store ≡ updated name field box (numbers_of box cells) old.store
+    pub lays : IsTrue old.honest → LaysBox name field box old.store new.store (layout_of old) (layout_of new)
 
 -- no box of the coverage, or no cells for the field
 abbrev pub IsNoWrite : Coverage → ℕ → List Axis → Cells → Refusal → Type 0

@@ -1,5 +1,5 @@
 //! The coverages of a disk, and those of them that a query or a job reads. Their cells come a tile at a time.
-ghost use Rattle.std.specs.Prelude.{◌≡◌, All, IfOk, OnOk, OnErr};
+ghost use Rattle.std.specs.Prelude.{◌≡◌, All, IfOk, OnOk};
 ghost use Rattle.tile_store.specs.declared.fault.Fault.TheVariants.{NoRoom};
 ghost use Rattle.coverage_server.specs.Views.{IsHeld};
 ghost use Rattle.coverage_server.specs.Tiles.{AreRead, TellsCells, store_for};

@@ -6,6 +6,7 @@ ghost use Rattle.metadata.specs.Metadata.{indexes_bytes};
 ghost use Rattle.coverage_server.specs.Closing.{metadata_held, WritesHeld};
 ghost use Rattle.coverage_server.specs.Damage.{KeepsSpelled};
 ghost use Rattle.coverage_server.specs.Disk.{disk_view};
+ghost use Rattle.coverage_server.specs.Growing.{GrowsToClose};
 ghost use Rattle.coverage_server.specs.Sessions.{IsClosedTo, IsNotClosed, IsLeft};
 ghost use Rattle.coverage_server.specs.Views.{IsSound, IsUnchanged, without_jobs};
 
@@ -57,6 +58,7 @@ fn write_closed<D: Disk>(alloc: Global, coverages: &mut Coverages<D>) -> Result<
     ensures honest { coverages.new.honest ≡ coverages.old.honest }
     ensures told { Tells (IsErrOf result CloseFault.DiskFault) coverages.old.failures coverages.new.failures }
     ensures overreads { coverages.new.overreads ≡ coverages.old.overreads }
+    ensures grows { GrowsToClose coverages.old coverages.new.content }
     ensures header { IsErrOf result CloseFault.NoMemory → KeepsHeader coverages.old.content coverages.new.content }
 {
     let metadata = metadata_of(alloc, coverages)?;

@@ -15,6 +15,7 @@ ghost use Rattle.raster_store.specs.Fetches.{IsPlaceOf, HasTile, HasRanks, HasTi
 ghost use Rattle.raster_store.specs.Snapshots.{held_for};
 ghost use Rattle.coverage_server.specs.Damage.{AreListedWhole, KeepsSpelled};
 ghost use Rattle.coverage_server.specs.Holding.{MayHold, HoldsFor, ReleasesFor};
+ghost use Rattle.coverage_server.specs.Growing.{GrowsToClose, GrowsToWrite};
 ghost use Rattle.coverage_server.specs.Leaving.{Continues, KeepsDisk};
 ghost use Rattle.coverage_server.specs.Tiles.{ArePickedFor, IsSpelledFor, store_for};
 ghost use Rattle.disk_face.specs.Disk.{Tells};
@@ -218,6 +219,7 @@ impl<D: Disk> Coverages<D> {
         ensures continues { Continues self.old self.new }
         ensures spelled { IsTrue self.old.honest → KeepsSpelled self.old self.new }
         ensures held { KeepsHeld self.old self.new }
+        ensures grows { GrowsToWrite name.now field area.now (content_view content.now) self.old self.new }
         ensures fetched { self.new.fetched ≡ self.old.fetched }
     {
         match content {
@@ -242,9 +244,11 @@ impl<D: Disk> Coverages<D> {
         ensures continues { Continues self.old self.new }
         ensures spelled { IsTrue self.old.honest → KeepsSpelled self.old self.new }
         ensures held { KeepsHeld self.old self.new }
+        ensures grows { GrowsToWrite name.now field area.now (contents.fill cell) self.old self.new }
         ensures fetched { self.new.fetched ≡ self.old.fetched }
     {
         let bytes = self.catalogue.bytes_len();
+        let _catalogue = self.catalogue.len();
         let _listed = self.cells.len();
         match self.cells.fill_box(name, field, area, cell, bytes) {
             Ok(()) => Ok(()),
@@ -268,9 +272,11 @@ impl<D: Disk> Coverages<D> {
         ensures continues { Continues self.old self.new }
         ensures spelled { IsTrue self.old.honest → KeepsSpelled self.old self.new }
         ensures held { KeepsHeld self.old self.new }
+        ensures grows { GrowsToWrite name.now field area.now (contents.values cells.now) self.old self.new }
         ensures fetched { self.new.fetched ≡ self.old.fetched }
     {
         let bytes = self.catalogue.bytes_len();
+        let _catalogue = self.catalogue.len();
         let _listed = self.cells.len();
         match self.cells.write_box(name, field, area, cells, bytes) {
             Ok(()) => Ok(()),
@@ -407,11 +413,12 @@ impl<D: Disk> Coverages<D> {
         ensures honest { self.new.honest ≡ self.old.honest }
         ensures told { Tells (IsErrOf result CloseFault.DiskFault) self.old.failures self.new.failures }
         ensures overreads { self.new.overreads ≡ self.old.overreads }
+        ensures grows { GrowsToClose self.old self.new.content }
         ensures header { IsErrOf result CloseFault.NoMemory → KeepsHeader self.old.content self.new.content }
     {
         let _catalogue = self.catalogue.len();
         let _whole = self.cells.len();
-        let first = self.cells.write_meta(metadata)?;
+        let first = self.cells.write_metadata(metadata)?;
         self.write_header(first, metadata.len() as u64)?;
         Ok(())
     }
@@ -420,6 +427,7 @@ impl<D: Disk> Coverages<D> {
     fn write_header(&mut self, first: u32, length: u64) -> Result<(), DiskFault>
         ensures closes { OnOk result
             (IsTrue self.old.honest → ClosesFile first length self.old.content self.new.content) }
+        ensures torn { IsTrue self.old.honest → HeaderTorn self.old.content self.new.content }
         ensures unchanged { IsUnchanged self.old self.new }
         ensures sound { IsSound self.old → IsSound self.new }
         ensures spelled { IsTrue self.old.honest → KeepsSpelled self.old self.new }

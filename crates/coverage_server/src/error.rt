@@ -6,8 +6,8 @@ use arr_core::Refusal;
 use std::alloc::{AllocError, AllocFailed};
 use thiserror::Error;
 
-/// Why a request is not answered: it is refused for what it asks, or for memory, for the disk, for room, or for a tile that is
-/// damaged.
+/// Why a request is not answered: it is refused for what it asks, or for memory, for the disk, for room, or for a tile
+/// that is damaged.
 #[derive(Debug, Drop, Error)]
 pub enum AnswerError {
     #[error("refused")]

@@ -83,8 +83,8 @@ fn fetch_refusal(error: FetchError) -> AnswerError
     }
 }
 
-/// A typed query becomes a job, for which its coverages are held as they are. The reply gives its number and how many units
-/// it has left; nothing is evaluated. Where it is refused nothing is held.
+/// A typed query becomes a job, for which its coverages are held as they are. The reply gives its number and how many
+/// units it has left; nothing is evaluated. Where it is refused nothing is held.
 fn submit_typed<D: Disk>(
     cells: &mut AskedCells<D>,
     desk: &mut JobDesk,
@@ -116,8 +116,8 @@ fn submit_typed<D: Disk>(
     }
 }
 
-/// A query becomes a job, for which its coverages are held as they are. The reply gives its number and how many units it
-/// has left; nothing is evaluated. Where it is refused nothing is held.
+/// A query becomes a job, for which its coverages are held as they are. The reply gives its number and how many units
+/// it has left; nothing is evaluated. Where it is refused nothing is held.
 pub fn submit_query<D: Disk>(
     cells: &mut AskedCells<D>,
     desk: &mut JobDesk,

@@ -20,6 +20,6 @@ mod templates;
 
 pub use closing::NotClosed;
 pub use laws::one_answer;
-pub use server::{ConnEnd, Server};
+pub use server::{ConnectionEnd, Server};
 pub use session::{SessionFault, serve_session, sessions_compose};
 pub use templates::templates_are_tomlins;

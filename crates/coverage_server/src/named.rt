@@ -1,11 +1,10 @@
 //! The signatures of the coverages that a query or a template names: what is asked of these alone is what is asked of
 //! all, of which no copy is made.
 
-ghost use Rattle.std.specs.Prelude.{◌≡◌, [], All, IfOk, OnOk};
+ghost use Rattle.std.specs.Prelude.{◌≡◌, All, IfOk, OnOk};
 ghost use Rattle.std.specs.List.{list_any};
 ghost use Rattle.std.specs.Str.{bytes_eq};
 ghost use Rattle.arr_core.specs.declared.signature.Signature.{Signature};
-ghost use Rattle.wcps_text.specs.declared.tree.Binding.{Binding};
 ghost use Rattle.wcps_text.specs.Tree.{query_view};
 ghost use Rattle.coverage_server.specs.Named.{AreAmong, IsAskedAlike, IsFoundIn, IsTypedAlike, StayFound};
 ghost use Rattle.coverage_server.specs.Views.{signatures_of};

@@ -103,8 +103,8 @@ pub fn plan_of(alloc: Global, typed: &TypedQuery) -> Result<Plan, AllocError>
     Ok(plan)
 }
 
-/// The typed query of a text over the coverages, or its refusal. Its refusals come in this order: those of its length, of
-/// its tokens, of its syntax, and of its types and limits.
+/// The typed query of a text over the coverages, or its refusal. Its refusals come in this order: those of its length,
+/// of its tokens, of its syntax, and of its types and limits.
 pub fn typed_text<D: Disk>(
     alloc: Global,
     coverages: &Coverages<D>,
@@ -122,8 +122,8 @@ pub fn typed_text<D: Disk>(
     Ok(typed)
 }
 
-/// The comma-separated values of a typed query whose plan an executor has begun, or the refusal by its evaluation: the plan
-/// is done a unit after the other.
+/// The comma-separated values of a typed query whose plan an executor has begun, or the refusal by its evaluation: the
+/// plan is done a unit after the other.
 fn values_by<D: Disk>(
     cells: &mut AskedCells<D>,
     workspace: &mut Workspace,
@@ -169,8 +169,8 @@ fn values_of<D: Disk>(
     values_by(cells, workspace, typed, &mut exec)
 }
 
-/// The answer to a query, as comma-separated values: the query is typed, then evaluated. It reads the store as it is, as
-/// number 0, and nothing is held for it.
+/// The answer to a query, as comma-separated values: the query is typed, then evaluated. It reads the store as it is,
+/// as number 0, and nothing is held for it.
 pub fn process<D: Disk>(
     cells: &mut AskedCells<D>,
     workspace: &mut Workspace,

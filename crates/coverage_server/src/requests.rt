@@ -4,6 +4,7 @@ ghost use Rattle.coverage_server.specs.Layouts.{LaysChange, LaysInsertion, LaysR
 ghost use Rattle.coverage_server.specs.Machine.{Deletes, Lists, Describes};
 ghost use Rattle.coverage_server.specs.Answered.{Answered, AnswersInsertion, AnswersUpdate, IsAnswer, TellsFailures};
 ghost use Rattle.coverage_server.specs.Damage.{KeepsSpelled};
+ghost use Rattle.coverage_server.specs.Growing.{GrowsChange};
 ghost use Rattle.coverage_server.specs.Leaving.{Continues, KeepsDisk};
 ghost use Rattle.coverage_server.specs.Views.{IsUnchanged, KeepsHeld};
 
@@ -59,6 +60,7 @@ pub fn update<D: Disk>(
     ensures continues { Continues coverages.old coverages.new }
     ensures spelled { IsTrue coverages.old.honest → KeepsSpelled coverages.old coverages.new }
     ensures held { KeepsHeld coverages.old coverages.new }
+    ensures grows { GrowsChange update.now coverages.old coverages.new }
     ensures fetched { coverages.new.fetched ≡ coverages.old.fetched }
 {
     let Some(signature) = coverages.signature(&update.coverage) else {

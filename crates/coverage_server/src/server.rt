@@ -1,9 +1,10 @@
 //! The server: requests act on the coverages, and each gets a reply.
 ghost use Rattle.std.specs.Prelude.{◌≡◌, IfOk, IfErr};
 ghost use Rattle.kvp_front.specs.Requests.{asks};
-ghost use Rattle.http_front.specs.declared.conn.Next.TheVariants.{Ended, ReadFault};
+ghost use Rattle.http_front.specs.declared.connection.Next.TheVariants.{Ended, ReadFault};
 ghost use Rattle.coverage_server.specs.Answered.{AnsweredAs, IsAnswer, LeavesTiles, TellsFailures};
 ghost use Rattle.coverage_server.specs.Fetching.{FetchesBounded, FetchesNext};
+ghost use Rattle.coverage_server.specs.Growing.{Grows, GrowsNext};
 ghost use Rattle.coverage_server.specs.Holding.{IsHolding};
 ghost use Rattle.coverage_server.specs.Leaving.{Continues, Leaves, LeavesFailures, IfRefused, refusal_number, reply_of};
 ghost use Rattle.coverage_server.specs.Represents.{Refines, Steps};
@@ -18,7 +19,7 @@ use crate::query::process;
 use crate::requests::{delete, describe, insert, list, update};
 use crate::templates::{expand_template, process_template};
 use disk_face::Disk;
-use http_front::{Conn, Next, Reply, WriteFault};
+use http_front::{Connection, Next, Reply, WriteFault};
 use job_desk::JobDesk;
 use kvp_front::{Request, read_request};
 use std::alloc::Global;
@@ -28,7 +29,7 @@ use tile_exec::Workspace;
 
 /// How a connection ended: by a message or the end of the stream, or by a read or a write that failed.
 #[derive(Clone, Copy, PartialEq, Eq)]
-pub enum ConnEnd {
+pub enum ConnectionEnd {
     Finished,
     ReadFault,
     WriteFault,
@@ -78,6 +79,7 @@ impl<D: Disk> Server<D> {
         ensures continues { Continues self.old.coverages self.new.coverages }
         ensures holding { IsHolding self.new.desk self.new.coverages.held }
         ensures fetches { FetchesBounded (asks request.now) (reply_of result) self.old self.new }
+        ensures grows { Grows (asks request.now) self.old.coverages self.new.coverages }
     {
         let alloc = self.cells.alloc;
         let _whole = self.cells.coverages.len();
@@ -120,8 +122,9 @@ impl<D: Disk> Server<D> {
     /// indexes, the jobs and what is held for them as they were on any disk, but that a step that is refused may have
     /// done units that its job still shows as left, and that a job whose answer is the fault that is told is fetched.
     /// The coverages are those of a catalogue. Coverages are held for exactly the jobs that have units left. Tiles are
-    /// fetched for ProcessCoverages, ProcessTemplate and StepJob alone: no more than the sum of the bounds of the boxes of
-    /// the query's plan, or of the units that were done, unless it fails.
+    /// fetched for ProcessCoverages, ProcessTemplate and StepJob alone: no more than the sum of the bounds of the boxes
+    /// of the query's plan, or of the units that were done, unless it fails. UpdateCoverage alone writes, and grows the
+    /// file no further than its new tiles need.
     pub fn answer(&mut self, request: &Request) -> Reply
         ensures step { Refines (λ p q. Steps (asks request.now) self.old p result q) self.old self.new }
         ensures catalogue { IsCatalogue (signatures_of self.old.coverages.store) }
@@ -130,6 +133,7 @@ impl<D: Disk> Server<D> {
         ensures continues { Continues self.old.coverages self.new.coverages }
         ensures holding { IsHolding self.new.desk self.new.coverages.held }
         ensures fetches { FetchesBounded (asks request.now) result self.old self.new }
+        ensures grows { Grows (asks request.now) self.old.coverages self.new.coverages }
     {
         let _count = self.cells.coverages.len();
         let answered = self.answered(request);
@@ -144,6 +148,7 @@ impl<D: Disk> Server<D> {
         ensures step { IsReply next self.old result self.new }
         ensures continues { Continues self.old.coverages self.new.coverages }
         ensures fetches { FetchesNext next result self.old self.new }
+        ensures grows { GrowsNext next self.old.coverages self.new.coverages }
     {
         let alloc = self.cells.alloc;
         match next {
@@ -174,25 +179,25 @@ impl<D: Disk> Server<D> {
         &mut self,
         reader: &mut R,
         writer: &mut W,
-    ) -> ConnEnd
+    ) -> ConnectionEnd
         ensures served { IsServed (ends_of R.view W.view reader.old reader.new writer.old writer.new) result self.old self.new }
         ensures told { TellsEnd (ends_of R.view W.view reader.old reader.new writer.old writer.new) result }
         ensures continues { Continues self.old.coverages self.new.coverages }
     {
         let alloc = self.cells.alloc;
-        let mut conn = Conn::new();
+        let mut connection = Connection::new();
         'serving: loop {
-            match conn.next(alloc, reader) {
-                Next::Ended => return ConnEnd::Finished,
-                Next::ReadFault => return ConnEnd::ReadFault,
+            match connection.next(alloc, reader) {
+                Next::Ended => return ConnectionEnd::Finished,
+                Next::ReadFault => return ConnectionEnd::ReadFault,
                 next => {
                     let reply = self.reply_to(next);
-                    match conn.send(writer, &reply) {
+                    match connection.send(writer, &reply) {
                         Ok(()) => {}
-                        Err(WriteFault) => return ConnEnd::WriteFault,
+                        Err(WriteFault) => return ConnectionEnd::WriteFault,
                     }
-                    if conn.is_over() {
-                        return ConnEnd::Finished;
+                    if connection.is_over() {
+                        return ConnectionEnd::Finished;
                     }
                 }
             }

@@ -1,5 +1,5 @@
 //! Templates of map algebra over the coverages: the text of a template's query, and the answer to it.
-ghost use Rattle.std.specs.Prelude.{◌≡◌, ◌≤◌, None, IfOk};
+ghost use Rattle.std.specs.Prelude.{◌≡◌, None, IfOk};
 ghost use Rattle.kvp_front.specs.Templates.{template_view};
 ghost use Rattle.map_templates.specs.Expansion.{asked, as_text};
 ghost use Rattle.raster_store.specs.Snapshots.{held_for};
@@ -127,8 +127,8 @@ pub fn process_template<D: Disk>(
     process(cells, workspace, text.as_str())
 }
 
-/// Over the coverages of a catalogue, whose numbers have 64 bits, the answer to a template that asks for an operation is the
-/// array of that operation, defined by sets of locations, or Overflow; unless the query of its text is refused.
+/// Over the coverages of a catalogue, whose numbers have 64 bits, the answer to a template that asks for an operation
+/// is the array of that operation, defined by sets of locations, or Overflow; unless the query of its text is refused.
 pub fn templates_are_tomlins()
     ensures { TemplatesAreTomlins }
 {}

@@ -3,19 +3,19 @@ ghost use Rattle.std.specs.Prelude.{◌≡◌, ◌≢◌, ◌-◌, length, true,
 ghost use Rattle.std.specs.Bool.{OnTrue, OnFalse};
 ghost use Rattle.disk_face.specs.Disk.{IsInside, Holds, Torn, Written, WritesHalf, Tells};
 
-use crate::{Disk, DiskFault, MemDisk};
+use crate::{Disk, DiskFault, MemoryDisk};
 use std::marker::Model;
 
 /// A disk in memory and how many calls are left until one fails: reads, writes and syncs count, and 0 stands for
 /// none. The call that fails is counted, and no other fails by itself. A write that fails writes the first half of
 /// its bytes, and of one byte none.
 #[derive(Drop)]
-pub struct FailDisk {
-    disk: MemDisk,
+pub struct FailingDisk {
+    disk: MemoryDisk,
     left: u64,
 }
 
-impl Model for FailDisk {
+impl Model for FailingDisk {
     ghost use Rattle.disk_face.specs.Disk.{Failing};
 
     ghost Value = { Failing };
@@ -23,22 +23,22 @@ impl Model for FailDisk {
     ghost view = { λ d. record { content = d.disk.content; failures = d.disk.failures; left = d.left } };
 }
 
-impl FailDisk {
+impl FailingDisk {
     /// The disk whose call k from 1 on fails, or none for 0.
-    pub fn new(disk: MemDisk, k: u64) -> FailDisk
+    pub fn new(disk: MemoryDisk, k: u64) -> FailingDisk
         ensures content { result.content ≡ disk.content }
         ensures failures { result.failures ≡ disk.failures }
         ensures left { result.left ≡ k }
     {
-        FailDisk { disk, left: k }
+        FailingDisk { disk, left: k }
     }
 
     /// The disk in memory, with what was written.
-    pub fn into_disk(self) -> MemDisk
+    pub fn into_disk(self) -> MemoryDisk
         ensures content { result.content ≡ self.content }
         ensures failures { result.failures ≡ self.failures }
     {
-        let FailDisk { disk, left: _ } = self;
+        let FailingDisk { disk, left: _ } = self;
         disk
     }
 
@@ -56,7 +56,7 @@ impl FailDisk {
     }
 }
 
-impl Disk for FailDisk {
+impl Disk for FailingDisk {
     ghost content = { λ d. d.content };
 
     ghost synced = { λ d. d.content };

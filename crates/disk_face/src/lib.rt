@@ -13,11 +13,11 @@ mod lying;
 mod memory;
 mod raw;
 
-pub use fail::FailDisk;
+pub use fail::FailingDisk;
 pub use file::FileDisk;
 pub use full::FullFile;
 pub use lying::LyingDisk;
-pub use memory::MemDisk;
+pub use memory::MemoryDisk;
 pub use raw::{RawFault, RawFile, StdFile};
 use thiserror::Error;
 
@@ -53,8 +53,8 @@ pub trait Disk {
         ensures overreads { IfInside (honest self.old) at buf.old (content self.old) (overreads self.new ≡ overreads self.old) }
         ensures told { Tells (IsErr result) (failures self.old) (failures self.new) };
 
-    /// Writes the bytes, of which there is one at least, from `at` on. A write past the end fills the gap with zeros. One
-    /// that fails leaves any bytes in its range and the gap, and the others as they were.
+    /// Writes the bytes, of which there is one at least, from `at` on. A write past the end fills the gap with zeros.
+    /// One that fails leaves any bytes in its range and the gap, and the others as they were.
     fn write_at(&mut self, at: u64, bytes: &[u8]) -> Result<(), DiskFault>
         requires { 0 < length bytes.now }
         ensures written { OnOk result (Writes (honest self.old) at bytes.now (content self.old) (content self.new)) }

@@ -3,14 +3,14 @@ ghost use Rattle.std.specs.Prelude.{◌≡◌, ◌≢◌, ◌-◌, ◌<◌, ℕ,
 ghost use Rattle.std.specs.Bool.{OnTrue, OnFalse};
 ghost use Rattle.disk_face.specs.Disk.{IsInside, Holds, HoldsInverted, Torn, Written, Tells};
 
-use crate::{Disk, DiskFault, MemDisk};
+use crate::{Disk, DiskFault, MemoryDisk};
 use std::marker::Model;
 
 /// A disk in memory and how many reads are left until one lies, where 0 stands for none. The read that lies gives each
 /// byte inverted. So the disk is not honest.
 #[derive(Drop)]
 pub struct LyingDisk {
-    disk: MemDisk,
+    disk: MemoryDisk,
     left: u64,
 }
 
@@ -24,7 +24,7 @@ impl Model for LyingDisk {
 
 impl LyingDisk {
     /// The disk whose read k from 1 on lies, or none for 0.
-    pub fn new(disk: MemDisk, k: u64) -> LyingDisk
+    pub fn new(disk: MemoryDisk, k: u64) -> LyingDisk
         ensures content { result.content ≡ disk.content }
         ensures failures { result.failures ≡ disk.failures }
         ensures left { result.left ≡ k }
@@ -33,7 +33,7 @@ impl LyingDisk {
     }
 
     /// The disk in memory, with what was written.
-    pub fn into_disk(self) -> MemDisk
+    pub fn into_disk(self) -> MemoryDisk
         ensures content { result.content ≡ self.content }
         ensures failures { result.failures ≡ self.failures }
     {

@@ -1,5 +1,5 @@
 //! A disk in memory. It is honest, and what it holds needs no sync.
-ghost use Rattle.std.specs.Prelude.{◌≡◌, ◌≤◌, ◌+◌, ◌-◌, ◌^◌, length, min, true, IsTrue, IsOk, IsErr, OnOk, OnErr};
+ghost use Rattle.std.specs.Prelude.{◌≡◌, ◌≤◌, ◌+◌, ◌-◌, ◌^◌, length, min, true, IsOk, IsErr, OnOk, OnErr};
 ghost use Rattle.disk_face.specs.Disk.{IsInside, Holds, Torn, Written, Tells};
 
 use crate::{Disk, DiskFault};
@@ -8,12 +8,12 @@ use std::marker::Model;
 
 /// A disk whose bytes are a vector.
 #[derive(Drop)]
-pub struct MemDisk {
+pub struct MemoryDisk {
     bytes: Vec<u8>,
     failures: u64,
 }
 
-impl Model for MemDisk {
+impl Model for MemoryDisk {
     ghost use Rattle.disk_face.specs.Disk.{Memory};
 
     ghost Value = { Memory };
@@ -21,20 +21,20 @@ impl Model for MemDisk {
     ghost view = { λ d. record { content = d.bytes.items; failures = d.failures } };
 }
 
-impl MemDisk {
+impl MemoryDisk {
     /// A disk that holds these bytes, of which no call has failed.
-    pub fn new(bytes: Vec<u8>) -> MemDisk
+    pub fn new(bytes: Vec<u8>) -> MemoryDisk
         ensures content { result.content ≡ bytes.items }
         ensures failures { result.failures ≡ 0 }
     {
-        MemDisk { bytes, failures: 0 }
+        MemoryDisk { bytes, failures: 0 }
     }
 
     /// The bytes that it holds.
     pub fn into_bytes(self) -> Vec<u8>
         ensures { result.items ≡ self.content }
     {
-        let MemDisk { bytes, failures: _ } = self;
+        let MemoryDisk { bytes, failures: _ } = self;
         bytes
     }
 
@@ -49,7 +49,7 @@ impl MemDisk {
     }
 }
 
-impl Disk for MemDisk {
+impl Disk for MemoryDisk {
     ghost content = { λ d. d.content };
 
     ghost synced = { λ d. d.content };

@@ -14,8 +14,8 @@ use Rattle.http1.specs.declared.fields.TransferEncoding.{TransferEncoding}
 use Rattle.http1.specs.declared.fields.TransferEncoding.TheVariants as Coding
 use Rattle.stream_face.specs.Views.{SourceView}
 use Rattle.http_front.specs.declared.head.WholeHead.{WholeHead}
-use Rattle.http_front.specs.declared.conn.Next.{Next}
-use Rattle.http_front.specs.declared.conn.Next.TheVariants.{Message, Refused, Ended, ReadFault}
+use Rattle.http_front.specs.declared.connection.Next.{Next}
+use Rattle.http_front.specs.declared.connection.Next.TheVariants.{Message, Refused, Ended, ReadFault}
 use Rattle.http_front.specs.Bytes.{Extends}
 use Rattle.http_front.specs.Head.{IsHeadAt, framing, framing_of, known_of, is_bare}
 use Rattle.http_front.specs.Stream.{ReadsHead, Item, item_of, refusal_item, Frames, Whole, HasNoMessage, Fronts, Finds, Shows, IsBareAt, TellsNext}

@@ -16,11 +16,6 @@ filled_view f k n a ys within few =
     take-add f n (take f a ++ after)
     ∙ (rw (take_at (take f a) after f len, drop_at (take f a) after f len, take-append-le n ys (post_of f k a) few) refl)
 
--- what is held stays where the room alone was written
-pub kept_view : (f k : ℕ) (a ys : List ℕ) → f ≤ length a → take f (put_mid f k a ys) ≡ take f a
-kept_view f k a ys within =
-    let len : length (take f a) ≡ f = length-take-le f a within in take_at (take f a) (ys ++ post_of f k a) f len
-
 -- the bytes from count on were moved to the front
 pub moved_view : (f count : ℕ) (a : List ℕ) → count ≤ f → f ≤ length a
     → take (f - count) (copy_within a count f 0) ≡ slice_range a count f

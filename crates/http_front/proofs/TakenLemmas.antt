@@ -5,8 +5,8 @@ use Rattle.std.specs.Io.KnownBytes.{Consumes, IsAtEnd}
 use Rattle.httparse.specs.Grammar.{RequestHead}
 use Rattle.httparse.proofs.GrammarLemmas.{ReadsRequest-append}
 use Rattle.arr_core.specs.declared.refusal.Refusal.{Refusal}
-use Rattle.http_front.specs.declared.conn.Next.{Next}
-use Rattle.http_front.specs.declared.conn.Next.TheVariants.{Message, Refused, Ended, ReadFault}
+use Rattle.http_front.specs.declared.connection.Next.{Next}
+use Rattle.http_front.specs.declared.connection.Next.TheVariants.{Message, Refused, Ended, ReadFault}
 use Rattle.http_front.specs.Head.{framing, is_last}
 use Rattle.http_front.specs.Stream.{ReadsHead, HasNoMessage, IsBareAt, Item, bad_head, Frames, Whole, Broken, Messages, Begins, Taken, Fronts, Finds, FindsItem}
 

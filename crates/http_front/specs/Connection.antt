@@ -9,12 +9,12 @@ use Rattle.http_front.specs.Head.{IsHeadAt}
 use Rattle.http_front.specs.Stream.{NeverHasHead, Finds}
 use Rattle.http_front.specs.declared.ahead.Ahead.{Ahead}
 use Rattle.http_front.specs.declared.ahead.Ahead.TheVariants.{Whole, Bad, Nothing, Cut, Fault}
-use Rattle.http_front.specs.declared.conn.Next.{Next}
+use Rattle.http_front.specs.declared.connection.Next.{Next}
 use Rattle.http_front.specs.declared.message.Taken.{Taken}
 
 -- The bytes that came and are not used; whether nothing comes after the last reply; whether the next reply has no body;
 -- and how many messages have come.
-pub record ConnView : Type 0 where
+pub record ConnectionView : Type 0 where
   pub buffer : List ℕ
   pub over : Bool
   pub bare : Bool
@@ -42,8 +42,8 @@ TellsAhead old new Nothing = new.failed ≡ old.failed
 TellsAhead old new Cut = new.failed ≡ old.failed
 TellsAhead old new Fault = new.failed ≡ fault_told old.failed
 
--- What was found of the message with this number in the bytes that were held and those that came, and what is noted of it
--- for its reply. These bytes are no more than a head and a body may have, 16,384 bytes and 1,048,576.
+-- What was found of the message with this number in the bytes that were held and those that came, and what is noted of
+-- it for its reply. These bytes are no more than a head and a body may have, 16,384 bytes and 1,048,576.
 abbrev pub Takes : SourceView → SourceView → ℕ → List ℕ → List ℕ → Taken → Bool → Type 0
 Takes before after n held now taken bare =
     (came : List ℕ) × Consumes before.remaining after.remaining came
@@ -51,6 +51,6 @@ Takes before after n held now taken bare =
     × (length (held ++ came) ≤ max_head + max_body)
 
 -- what a look for the next message does to a connection
-abbrev pub TakesNext : SourceView → SourceView → ConnView → ConnView → Next → Type 0
+abbrev pub TakesNext : SourceView → SourceView → ConnectionView → ConnectionView → Next → Type 0
 TakesNext before after old new next =
     Takes before after old.count old.buffer new.buffer (record { next = next; over = new.over }) new.bare

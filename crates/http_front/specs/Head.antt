@@ -1,5 +1,5 @@
--- What a head asks, and what stands at the front of some bytes. The grammar of a head is that of the crate httparse, and
--- what its fields say is read as RFC 9112 has it.
+-- What a head asks, and what stands at the front of some bytes. The grammar of a head is that of the crate httparse,
+-- and what its fields say is read as RFC 9112 has it.
 use Rattle.std.specs.Prelude.{◌≡◌, ℕ, ◌≤◌, ◌<◌, ◌==◌, Bool, ◌||◌, not, if◌then◌else◌, List, [], length, map, drop, Result, Ok, Err, bytes_eq, codes, nat_eq, nat_le, ⊤}
 use Rattle.std.specs.List.{starts_with}
 use Rattle.arr_core.specs.declared.refusal.Refusal.{Refusal}
@@ -45,7 +45,8 @@ abbrev pub known_of : RequestHead → KnownFields
 known_of h = known_fields (map name_and_value h.fields)
 
 -- The length of a body by its fields, or the refusal: NotServed for a Transfer-Encoding field, whatever else there is;
--- BadHead for a Content-Length that is no number of 64 bits, or two that differ; BodyTooLong for a length above 1,048,576.
+-- BadHead for a Content-Length that is no number of 64 bits, or two that differ; BodyTooLong for a length above
+-- 1,048,576.
 abbrev pub framing_of : TransferEncoding → ContentLength → Result ℕ Refusal
 framing_of Coding.Absent Length.Absent = Ok 0
 framing_of Coding.Absent (Length.Value n) = if nat_le n max_body then Ok n else Err BodyTooLong
@@ -61,8 +62,8 @@ framing h = framing_of (known_of h).transfer_encoding (known_of h).content_lengt
 abbrev pub is_served : List ℕ → Bool
 is_served method = bytes_eq method (codes "GET") || bytes_eq method (codes "POST")
 
--- The reply to a message with this head ends the connection: it is of HTTP/1.0, its method is not served, or a Connection
--- field lists `close`.
+-- The reply to a message with this head ends the connection: it is of HTTP/1.0, its method is not served, or a
+-- Connection field lists `close`.
 abbrev pub is_last : RequestHead → Bool
 is_last h = (h.minor == 0) || not (is_served h.method) || (known_of h).close
 

@@ -2,9 +2,9 @@
 use Rattle.std.specs.Prelude.{◌≡◌, ℕ, ◌==◌, ◌⊎◌, Bool, true, List, [], length, min, max, if◌then◌else◌}
 use Rattle.std.specs.declared.io.ErrorKind.{ErrorKind}
 
--- What a reader has still to give: its bytes; how many of them come in the pieces up to the cut, none once it is passed; how
--- many a later piece has; the number of the call that fails, from 1 for the next one, and 0 for none; whether each read
--- behind the bytes fails; and the kind of these faults.
+-- What a reader has still to give: its bytes; how many of them come in the pieces up to the cut, none once it is
+-- passed; how many a later piece has; the number of the call that fails, from 1 for the next one, and 0 for none;
+-- whether each read behind the bytes fails; and the kind of these faults.
 pub record Reading : Type 0 where
   pub bytes : List ℕ
   pub cut : ℕ
@@ -25,8 +25,8 @@ read_count r room = min (min (length r.bytes) (piece_of r.cut r.step)) room
 abbrev pub FailsToRead : Reading → Type 0
 FailsToRead r = (r.due ≡ 1) ⊎ ((r.bytes ≡ []) × (r.breaks ≡ true))
 
--- What a writer has taken: its bytes, and how many of them were flushed; how many a piece has; how many more it takes; the
--- number of the call that fails, flushes too, from 1 for the next one, and 0 for none; and the kind of that fault.
+-- What a writer has taken: its bytes, and how many of them were flushed; how many a piece has; how many more it takes;
+-- the number of the call that fails, flushes too, from 1 for the next one, and 0 for none; and the kind of that fault.
 pub record Writing : Type 0 where
   pub text : List ℕ
   pub flushed : ℕ

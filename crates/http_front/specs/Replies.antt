@@ -1,4 +1,5 @@
--- The bytes of a reply (RFC 9112): a status line, the type and the length of the body, whether the connection ends, and the body.
+-- The bytes of a reply (RFC 9112): a status line, the type and the length of the body, whether the connection ends, and
+-- the body.
 use Rattle.std.specs.Prelude.{ℕ, Bool, List, [], ◌++◌, length, codes, decimal, if◌then◌else◌, unwrap_or, string_bytes}
 use Rattle.http.specs.StatusCode.{reason_phrase}
 use Rattle.arr_core.specs.Refusals.{refusal_name, refusal_status}
@@ -19,7 +20,8 @@ close_line last = if last then codes "Connection: close\r\n" else []
 -- what stands before the body: the status, the type and the length of the body, and whether the connection ends
 abbrev pub opening : ℕ → List ℕ → ℕ → Bool → List ℕ
 opening status kind size last =
-    codes "HTTP/1.1 " ++ decimal status ++ codes " " ++ phrase_of status ++ codes "\r\nContent-Type: " ++ kind ++ codes "\r\nContent-Length: " ++ decimal size
+    codes "HTTP/1.1 " ++ decimal status ++ codes " " ++ phrase_of status ++ codes "\r\nContent-Type: " ++ kind ++ codes
+    "\r\nContent-Length: " ++ decimal size
     ++ codes "\r\n" ++ close_line last ++ codes "\r\n"
 
 -- the body, unless it is left out

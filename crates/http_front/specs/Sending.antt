@@ -4,7 +4,8 @@ use Rattle.std.specs.Io.KnownBytes.{Appends}
 use Rattle.stream_face.specs.Faults.{AppendsPrefix, Sent, fault_told}
 use Rattle.stream_face.specs.Views.{SinkView}
 
--- All of the text but what is pending went out, without a fault; or a first part of the text did, and there was a fault.
+-- All of the text but what is pending went out, without a fault; or a first part of the text did, and there was a
+-- fault.
 abbrev pub IsUnderWay : SinkView → SinkView → Bool → List ℕ → List ℕ → Type 0
 IsUnderWay old new true text pending =
     (sent : List ℕ) × Appends old.contents new.contents sent × (text ≡ sent ++ pending) × (new.failed ≡ old.failed)

@@ -9,8 +9,8 @@ use Rattle.stream_face.specs.Faults.{fault_told}
 use Rattle.stream_face.specs.Views.{SourceView}
 use Rattle.http_front.specs.Limits.{max_head, max_head_fields, max_messages}
 use Rattle.http_front.specs.Head.{asked_by, framing, is_last, is_bare}
-use Rattle.http_front.specs.declared.conn.Next.{Next}
-use Rattle.http_front.specs.declared.conn.Next.TheVariants.{Message, Refused, Ended, ReadFault}
+use Rattle.http_front.specs.declared.connection.Next.{Next}
+use Rattle.http_front.specs.declared.connection.Next.TheVariants.{Message, Refused, Ended, ReadFault}
 
 -- a head of at most 16,384 bytes and 64 fields stands at the front
 pub record ReadsHead (bytes : List ℕ) (h : RequestHead) (rest : List ℕ) : Type 0 where
@@ -48,7 +48,8 @@ bad_head bare = refusal_item BadHead bare
 
 -- what follows a head: a body of its length, or anything where that is refused
 abbrev pub Frames : Result ℕ Refusal → ℕ → RequestHead → List ℕ → Item → List ℕ → Type 0
-Frames (Ok len) n h after item rest = (body : List ℕ) × (length body ≡ len) × (after ≡ body ++ rest) × (item ≡ item_of n h body)
+Frames (Ok len) n h after item rest =
+    (body : List ℕ) × (length body ≡ len) × (after ≡ body ++ rest) × (item ≡ item_of n h body)
 Frames (Err refusal) n h after item rest = (item ≡ refusal_item refusal (is_bare h)) × (after ≡ rest)
 
 -- the whole message with this number at the front

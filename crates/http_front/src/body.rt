@@ -6,7 +6,8 @@ use crate::buffer::{Buffer, Filled};
 use std::alloc::Global;
 use stream_face::Source;
 
-/// A body: kept; dropped, since none is asked for or memory is wanting; or cut short by the end of the stream or by a fault.
+/// A body: kept; dropped, since none is asked for or memory is wanting; or cut short by the end of the stream or by a
+/// fault.
 #[derive(Drop)]
 pub enum Body {
     Kept(Vec<u8>),
@@ -41,8 +42,8 @@ fn extended(kept: Option<Vec<u8>>, bytes: &[u8]) -> Option<Vec<u8>>
     }
 }
 
-/// Takes a body of this length off the stream, and reads nothing behind it. Where it is to be kept and no memory is found
-/// for it, it is dropped.
+/// Takes a body of this length off the stream, and reads nothing behind it. Where it is to be kept and no memory is
+/// found for it, it is dropped.
 pub fn take_body<S: Source>(
     buffer: &mut Buffer,
     alloc: Global,

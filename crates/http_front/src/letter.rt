@@ -8,8 +8,8 @@ use stream_face::{Sink, send_all};
 /// The most bytes that are held back.
 const LETTER_LIMIT: usize = 2048;
 
-/// The part of a reply that is not yet written. It is written when no more of the reply fits, and at its end, so that a reply
-/// that fits goes out in one write. Making one takes no memory.
+/// The part of a reply that is not yet written. It is written when no more of the reply fits, and at its end, so that a
+/// reply that fits goes out in one write. Making one takes no memory.
 #[derive(Drop)]
 pub struct Letter {
     bytes: [u8; LETTER_LIMIT],

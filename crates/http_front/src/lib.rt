@@ -4,13 +4,13 @@
 mod ahead;
 mod body;
 mod buffer;
-mod conn;
+mod connection;
 mod head;
 mod letter;
 mod message;
 mod pieces;
 mod reply;
 
-pub use conn::{Conn, Next};
+pub use connection::{Connection, Next};
 pub use pieces::{PieceReader, PieceWriter};
 pub use reply::{Reply, WriteFault};

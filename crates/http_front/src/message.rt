@@ -8,7 +8,7 @@ ghost use Rattle.http_front.specs.Connection.{Takes};
 
 use crate::body::{Body, take_body};
 use crate::buffer::Buffer;
-use crate::conn::Next;
+use crate::connection::Next;
 use crate::head::{Asked, WholeHead};
 use arr_core::Refusal;
 use std::alloc::Global;

@@ -1,4 +1,5 @@
-//! Readers and writers to try a connection with: they give and take their bytes in pieces, and one of their calls may fail.
+//! Readers and writers to try a connection with: they give and take their bytes in pieces, and one of their calls may
+//! fail.
 ghost use Rattle.std.specs.Prelude.{◌≡◌, ◌≢◌, ◌-◌, [], length, true, false, IsErr, IsOk, IfOk, IfErr, OnErr};
 ghost use Rattle.std.specs.Io.{ReadsAtMost, WritesAtMost};
 ghost use Rattle.std.specs.IoError.{error_kind};
@@ -10,9 +11,9 @@ use std::io;
 use std::io::{ErrorKind, Read, Write};
 use std::marker::Model;
 
-/// A reader of some bytes in pieces: one that ends at the cut, if there is one before it, and then pieces of `step` bytes,
-/// or of one where that is 0. Behind the bytes it ends, or each read fails. One call may fail before: the call `due`, from
-/// 1 for the next one.
+/// A reader of some bytes in pieces: one that ends at the cut, if there is one before it, and then pieces of `step`
+/// bytes, or of one where that is 0. Behind the bytes it ends, or each read fails. One call may fail before: the call
+/// `due`, from 1 for the next one.
 #[derive(Drop)]
 pub struct PieceReader<'a> {
     bytes: &'a [u8],
@@ -118,8 +119,8 @@ impl Read for PieceReader<'_> {
     }
 }
 
-/// A writer that takes its bytes in pieces of at most `step`, or of one where that is 0, and `room` in all; then each write
-/// fails. One call may fail before, a flush too: the call `due`, from 1 for the next one.
+/// A writer that takes its bytes in pieces of at most `step`, or of one where that is 0, and `room` in all; then each
+/// write fails. One call may fail before, a flush too: the call `due`, from 1 for the next one.
 #[derive(Drop)]
 pub struct PieceWriter {
     text: Vec<u8>,

@@ -1,5 +1,5 @@
--- What coverages say where blocks hold what they held, and where one field has another index; and where the coverage with a
--- name stands.
+-- What coverages say where blocks hold what they held, and where one field has another index; and where the coverage
+-- with a name stands.
 use Rattle.std.proofs.Common.{◌≡◌, ℕ, zero, suc, ◌<◌, List, [], ◌∷◌, ◌++◌, length, get_or, set, map, refl, ap, arith, position, true, false, Some, None, sym, inl, inr}
 use Rattle.std.specs.Prelude.{ℤ, pos, slice_get, replicate}
 use Rattle.std.specs.List.{remove, AllPairs, position_or_len}

@@ -1,9 +1,9 @@
 -- What is known of a coverage that is found, and what reads of its fields' tiles say of it.
-use Rattle.std.proofs.Common.{◌≡◌, ℕ, zero, suc, ◌<◌, List, [], ◌∷◌, length, Option, Some, None, arith, get_or, refl, sym, ap, ◌∙◌, subst, map, All, inl, inr, ◌+◌, ◌++◌, take}
+use Rattle.std.proofs.Common.{◌≡◌, ℕ, zero, suc, ◌<◌, List, [], ◌∷◌, length, Option, Some, None, arith, get_or, refl, sym, ap, ◌∙◌, subst, map, All, ◌+◌, ◌++◌, take}
 use Rattle.std.specs.Prelude.{IsSomeAnd, slice_get, IsTrue, option_map, ℤ, pos}
 use Rattle.std.proofs.lemmas.List.{length-map, get_or-map, map_push, take_more}
 use Rattle.std.proofs.lemmas.List.Elements.{All-from_recursion}
-use Rattle.std.proofs.lemmas.Option.{slice_get-map, slice_get_read, slice_get_cases, slice_get-get_or}
+use Rattle.std.proofs.lemmas.Option.{slice_get-map, slice_get_read, slice_get-get_or}
 use Rattle.std.proofs.lemmas.Int.{ints}
 use Rattle.arr_core.specs.declared.cell.FieldType.{FieldType}
 use Rattle.arr_core.specs.declared.field.Field.{Field}
@@ -14,7 +14,6 @@ use Rattle.arr_core.specs.Tiles.{tile_boxes, grid, edge_of, tile_box, TileMeets}
 use Rattle.arr_core.proofs.Points.{at_rank, at_place, length-points, point-inside, rank_of-lt-count}
 use Rattle.arr_core.proofs.Boxes.{IsDomain-box, IsBoxOf-box}
 use Rattle.arr_core.proofs.Grids.{ordered-grid, edge-some, length-tile_boxes, get_or-tile_boxes}
-use Rattle.arr_core.specs.Meeting.{tile_number}
 use Rattle.block_file.specs.State.{BlocksState, block}
 use Rattle.block_file.specs.Words.{Covers}
 use Rattle.tile_store.specs.declared.numbers.Numbers.{Numbers}
@@ -28,7 +27,7 @@ use Rattle.raster_store.specs.declared.held.Held.{Held}
 use Rattle.raster_store.specs.declared.reading.TileAt.{TileAt}
 use Rattle.raster_store.specs.Views.{FieldsIntact, AreIntact, listed_fields, Index}
 use Rattle.raster_store.specs.Calls.{HasField}
-use Rattle.raster_store.specs.Fetches.{HasTile, HasRanks, HasTileNumber, IsPlaceOf, IsSpelledAt, IsSpelledOf, IsDecoded, ArePickedIn}
+use Rattle.raster_store.specs.Fetches.{HasTile, HasRanks, IsPlaceOf, IsSpelledAt, IsSpelledOf, IsDecoded, ArePickedIn}
 use Rattle.raster_store.specs.Holding.{coverages_of, coverage_of, indexes_of, index_at, NoneNamed, IsNamedAt, IsWhole, IsHeld}
 use Rattle.raster_store.specs.Fields.{IsNamed, HasKind, HasPatch, IsFieldOf}
 use Rattle.raster_store.proofs.Contents.{intact-at, found_none, found_named, named_within, values-at}
@@ -37,10 +36,6 @@ use Rattle.raster_store.proofs.Totals.{all_parts, field_parts}
 pub some_weaker : {X : Type 0} (o : Option X) (P Q : X → Type 0) → ((x : X) → P x → Q x) → IsSomeAnd o P → IsSomeAnd o Q
 some_weaker None P Q f h = absurd h
 some_weaker (Some x) P Q f h = f x h
-
-pub some_both : {X : Type 0} (o : Option X) (P Q : X → Type 0) → IsSomeAnd o P → IsSomeAnd o Q → IsSomeAnd o (λ x. P x × Q x)
-some_both None P Q p q = absurd p
-some_both (Some x) P Q p q = (p, q)
 
 pub some_within : {X : Type 0} (xs : List X) (i : ℕ) (P : X → Type 0) → IsSomeAnd (slice_get xs i) P → i < length xs
 some_within [] i P has = absurd has
@@ -113,12 +108,6 @@ place_of_name content held name place at =
 pub place_within : (content : List ℕ) (held : List Held) (at : TileAt) → HasTile at (coverages_of content held) → at.coverage < length held
 place_within content held at has =
     omega (arith, length-map held (coverage_of content), some_within (coverages_of content held) at.coverage (λ (c : Coverage). (at.field < length c.fields) × (at.tile < length (tile_boxes c.domain))) has)
-
--- a tile of the coverage with a name is one at its place
-pub tile_named : (coverages : Store) (name : List ℕ) (place field tile : ℕ) → found name coverages ≡ slice_get coverages place → HasField name field coverages
-    → HasTileNumber name tile coverages → HasTile (record { coverage = place; field = field; tile = tile }) coverages
-tile_named coverages name place field tile is has within =
-    some_both (slice_get coverages place) (λ (c : Coverage). field < length c.fields) (λ (c : Coverage). tile < length (tile_boxes c.domain)) (rw is at has) (rw is at within)
 
 -- a field of the coverage with a name
 pub named_field : (s : BlocksState) (held : List Held) (name : List ℕ) (field : ℕ) (h : Held) → IsHeld s held → IsNamed name held h → HasField name field (coverages_of s.content held) → FieldOf s held (found name (coverages_of s.content held)) h field
@@ -272,7 +261,7 @@ spelled_named s held name field h kind tile held_is is has within =
 pub some_at : {X : Type 0} (o : Option X) (x : X) (P : X → Type 0) → o ≡ Some x → P x → IsSomeAnd o P
 some_at o x P e p = rw e p
 
--- a tile that is not spelled, of those of a point or a box, as the store tells it
+-- a tile that is not spelled, of those that a box meets and does not cover, as the store tells it
 module _ (s : BlocksState) (held : List Held) (name : List ℕ) (field : ℕ) (h : Held) (kind : FieldType) (is_held : IsHeld s held) (is : IsNamed name held h) (has : HasKind h.signature.fields field kind) (within : field < length h.fields.items) where
   abbrev IsBad : ℕ → Type 0
   IsBad tile = IsSpelledOf name field tile s.content (coverages_of s.content held) (indexes_of held) → ⊥
@@ -283,35 +272,8 @@ module _ (s : BlocksState) (held : List Held) (name : List ℕ) (field : ℕ) (h
   is_bad : (tile : ℕ) → IsBadHere tile → IsBad tile
   is_bad tile bad spelled = bad (spelled_named s held name field h kind tile is_held is has within spelled)
 
-  pub cell_damaged : (p : List ℤ) → IsBadHere (tile_number h.signature.domain p) → IsSomeAnd (found name (coverages_of s.content held)) (λ c. IsBad (tile_number c.domain p))
-  cell_damaged p bad = some_at (found name (coverages_of s.content held)) (coverage_of s.content h) (λ c. IsBad (tile_number c.domain p)) (known_named s held name h is_held is).at (is_bad (tile_number h.signature.domain p) bad)
-
-  pub box_damaged : (area : List Axis) (tile : ℕ) → TileMeets h.signature.domain tile area → IsBadHere tile → IsSomeAnd (found name (coverages_of s.content held)) (λ c. (t : ℕ) × TileMeets c.domain t area × IsBad t)
-  box_damaged area tile meets bad = some_at (found name (coverages_of s.content held)) (coverage_of s.content h) (λ c. (t : ℕ) × TileMeets c.domain t area × IsBad t) (known_named s held name h is_held is).at (tile, meets, is_bad tile bad)
-
   pub under_damaged : (area : List Axis) (tile : ℕ) → TileMeets h.signature.domain tile area → (IsBoxOf area (tile_box h.signature.domain tile) → ⊥) → IsBadHere tile
       → IsSomeAnd (found name (coverages_of s.content held)) (λ c. (t : ℕ) × TileMeets c.domain t area × (IsBoxOf area (tile_box c.domain t) → ⊥) × IsBad t)
   under_damaged area tile meets open_ bad =
       some_at (found name (coverages_of s.content held)) (coverage_of s.content h) (λ c. (t : ℕ) × TileMeets c.domain t area × (IsBoxOf area (tile_box c.domain t) → ⊥) × IsBad t) (known_named s held name h is_held is).at
       (tile, meets, open_, is_bad tile bad)
-
--- so is it at the coverage's place
-pub spelled_placed : (s : BlocksState) (held : List Held) (name : List ℕ) (place field tile : ℕ) → IsHeld s held → IsNamedAt name held place → HasTile (record { coverage = place; field = field; tile = tile }) (coverages_of s.content held)
-    → IsSpelledOf name field tile s.content (coverages_of s.content held) (indexes_of held) → IsSpelledAt (record { coverage = place; field = field; tile = tile }) s.content (coverages_of s.content held) (indexes_of held)
-spelled_placed s held name place field tile is named has spelled = elim (slice_get_cases held place).1 [
-  | inl there ↦
-      let h = there.0 in
-      let was = sym there.3 in
-      let facts = known s held place h is there.1 was in
-      let both = found_named s.content name field held place named in
-      let index = indexes_at held place h there.1 was in
-      let low : field < length h.signature.fields = (rw facts.at at has).0 in
-      let within : field < length h.fields.items = omega (arith, low, facts.whole.0) in
-      elim (slice_get_cases h.signature.fields field).1 [
-        | inl of ↦
-            rw (facts.at, index, of.2)
-            (spelled (coverage_of s.content h) of.0 (get_or h.fields.items field []) (both.0 ∙ facts.at) of.2 (both.1 ∙ ap (λ (l : List Index). slice_get l field) index ∙ slice_get-get_or h.fields.items field [] within))
-        | inr none ↦ absurd (omega (arith, low, none.0))
-      ]
-  | inr past ↦ absurd (omega (arith, named_within name held place named, past.0))
-]

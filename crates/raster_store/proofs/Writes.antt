@@ -1,6 +1,6 @@
 -- A store that is held, and what changes of its coverages and blocks do to it and to the tiles that are kept decoded.
 use Rattle.std.proofs.Common.{◌≡◌, ℕ, Bool, true, ◌&&◌, List, [], Contains, refl, sym, ap, ◌∙◌, subst, inl, inr, nat_eq, Result, Ok, Err, OnOk, OnErr, suc, ◌<◌, ◌∷◌, length, get_or, take, drop, map, IsTrue, arith, All, ◌≢◌, None, Option, set}
-use Rattle.std.specs.Prelude.{ℤ, Some, IsTrue, replicate}
+use Rattle.std.specs.Prelude.{ℤ, Some, replicate}
 use Rattle.arr_core.specs.declared.runs.RunList.{RunList}
 use Rattle.arr_core.specs.Runs.{cells_of}
 use Rattle.std.specs.Map.{lookup, remove_entry}

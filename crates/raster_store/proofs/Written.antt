@@ -22,10 +22,10 @@ use Rattle.tile_store.specs.declared.fault.Fault.{Fault}
 use Rattle.tile_store.specs.declared.numbers.Numbers.{Numbers}
 use Rattle.tile_store.specs.declared.numbers.Patch.{Patch}
 use Rattle.tile_store.specs.Faults.{Refuses}
-use Rattle.tile_store.specs.Listing.{listed, IsBelow, IsSound, UsesOnce}
+use Rattle.tile_store.specs.Listing.{listed, IsBelow, IsSound, Relists}
 use Rattle.tile_store.specs.Numbers.{numbers_in}
-use Rattle.tile_store.specs.Patches.{Patches, RefusesPatch}
-use Rattle.tile_store.specs.Room.{HasRoom, AreMeeting, tile_blocks, cells_after, room_for}
+use Rattle.tile_store.specs.Patches.{Patches, GrowsFor, RefusesPatch}
+use Rattle.tile_store.specs.Room.{HasRoom, AreMeeting, tile_blocks, cells_after, new_blocks, room_for}
 use Rattle.tile_store.specs.Stored.{IsSpelled}
 use Rattle.tile_store.proofs.Kept.{keeps_listed, sound_kept, spelled_kept}
 use Rattle.raster_store.specs.declared.held.Held.{Held}
@@ -34,15 +34,15 @@ use Rattle.raster_store.specs.Fields.{HasKind, HasPatch, IsRestSize}
 use Rattle.raster_store.specs.Holding.{coverages_of, coverage_of, indexes_of, index_at, AreApart, IsNamedAt, IsWhole, IsHeld}
 use Rattle.raster_store.specs.Calls.{AreSameSignatures}
 use Rattle.raster_store.specs.Fetches.{IsDamagedUnder, IsSpelledOf}
-use Rattle.raster_store.specs.Words.{Stays, Keeps, Writes, LacksRoomToWrite}
+use Rattle.raster_store.specs.Words.{Stays, Keeps, Writes, GrowsToWrite, LacksRoomToWrite}
 use Rattle.raster_store.proofs.Contents.{KeepsFields, KeepsAll, store_kept, coverage_updated, intact-set, intact-at, named_within, found_named, updated_named}
-use Rattle.raster_store.proofs.Readings.{known_named, named_field, patch_field, indexes_at, kind_gives, under_damaged}
+use Rattle.raster_store.proofs.Readings.{known_named, named_field, patch_field, indexes_at, kind_gives, kind_has, under_damaged}
 use Rattle.raster_store.proofs.Totals.{sum_parts, all_parts, field_parts}
 use Rattle.raster_store.proofs.Writes.{view_of, keeps_all, same_signatures}
 use Rattle.raster_store.proofs.Tiles.{Exchange, tiles_kept, tiles_written}
 
--- The field j of the coverage h at a place has x' for its index, and h has become h'. What others list is kept, and the field
--- is sound, and spelled where it was.
+-- The field j of the coverage h at a place has x' for its index, and h has become h'. What others list is kept, and the
+-- field is sound, and spelled where it was.
 pub record Write {B : Type 0} (state : B → BlocksState) (old new : B) (held : List Held) (name : List ℕ) (i j : ℕ) (kind : FieldType) (h h' : Held) (x' : Index) : Type 0 where
   pub is_held : IsHeld (state old) held
   pub at : IsNamedAt name held i
@@ -56,12 +56,12 @@ pub record Write {B : Type 0} (state : B → BlocksState) (old new : B) (held : 
   pub spelled : IsTrue (state old).honest → IsSpelled kind h.signature.domain (index_at h j) (state old).content → IsSpelled kind h.signature.domain x' (state new).content
 
 -- done or refused, the field is sound, and its tiles are spelled where they were
-outcome : {T E : Type 0} (r : Result T E) (u : Patch) (s s' : BlocksState) (x x' : Index) → IsSound u.domain.now s x → OnOk r (Patches u s x s' x') → OnOk r (IsSound u.domain.now s' x') → OnOk r (Moves (listed x) (listed x') s s')
+outcome : {T E : Type 0} (r : Result T E) (u : Patch) (s s' : BlocksState) (x x' : Index) → IsSound u.domain.now s x → OnOk r (Patches u s x s' x') → OnOk r (IsSound u.domain.now s' x') → OnOk r (Relists x x' s s')
     → OnErr r (x' ≡ x) → OnErr r (Moves none none s s')
     → Moves (listed x) (listed x') s s' × IsSound u.domain.now s' x' × (IsTrue s.honest → IsSpelled u.kind u.domain.now x s.content → IsSpelled u.kind u.domain.now x' s'.content)
 unfolding IsSpelled
-outcome (Ok t) u s s' x x' before done sound moves same kept = (moves, sound, λ sure spelled tile. (done sure).others tile (spelled tile))
-outcome (Err e) u s s' x x' before done sound moves same kept = rw same (
+outcome (Ok t) u s s' x x' before done sound lists same kept = (lists.moves, sound, λ sure spelled tile. (done sure).others tile (spelled tile))
+outcome (Err e) u s s' x x' before done sound lists same kept = rw same (
   moves_as none none (listed x) (listed x) s s' (λ k. omega arith) (λ k more. omega (arith, more)) kept,
   sound_kept u.domain.now x s s' before kept,
   λ sure. spelled_kept u.kind u.domain.now x s.content s'.content (keeps_listed u.domain.now x none none s s' before sure (λ k some. omega (arith, some, before.counted k)) kept),
@@ -173,10 +173,10 @@ module _ {B : Type 0} {state : B → BlocksState} {old new : B} {held : List Hel
       )
 
   done_after : {T E : Type 0} (xs xs' : List SnapshotView) (catalogue rest fetched : ℕ) (u : Patch) (r : Result T E) → u.domain.now ≡ h.signature.domain → u.kind ≡ kind → IsRestSize held i j catalogue rest → IsBoxOf h.signature.domain u.area.now → free_of (state new) < 2 ^ 32
-      → OnOk r (Patches u (state old) (index_at h j) (state new) x') → OnOk r (UsesOnce (state old) (state new)) → OnOk r (HasRoom rest x' (state new))
+      → OnOk r (Patches u (state old) (index_at h j) (state new) x') → OnOk r (Relists (index_at h j) x' (state old) (state new)) → OnOk r (HasRoom rest x' (state new))
       → OnOk r (Writes state name j u.area.now (numbers_in u.area.now u.numbers.now) catalogue (view_of state old held xs fetched) (view_of state new (set held i h') xs' fetched))
-  done_after xs xs' catalogue rest fetched u (Err e) domain same least box small done once room = tt
-  done_after xs xs' catalogue rest fetched u (Ok t) domain same least box small done once room =
+  done_after xs xs' catalogue rest fetched u (Err e) domain same least box small done lists room = tt
+  done_after xs xs' catalogue rest fetched u (Ok t) domain same least box small done lists room =
       let all = rest_of catalogue in
       let size = least h all.0 w.was all.1 in
       let stored : IsTrue (state old).honest → coverages_of (state new).content (set held i h') ≡ updated name j u.area.now (numbers_in u.area.now u.numbers.now) (coverages_of (state old).content held) = λ sure.
@@ -187,7 +187,7 @@ module _ {B : Type 0} {state : B → BlocksState} {old new : B} {held : List Hel
         signatures = told_same;
         tiles = λ sure. tiles_written state old new (exchange sure) xs xs' fetched u domain same box (done sure) (stored sure);
         moves = moves_as _ _ _ _ (state old) (state new) (λ k. omega (arith, (counts k).0, (counts k).1)) (λ k more. omega (arith, more, (counts k).0)) w.moves;
-        once = once;
+        once = lists.once;
         room = rw (← all.2) (elim (cases_lt all.0 (2 ^ 64)) [
           | inl below ↦ (let e : rest ≡ all.0 = omega (arith, size, below) in rw e at room)
           | inr above ↦ absurd (let e : rest ≡ 2 ^ 64 - 1 = omega (arith, size, above) in omega (arith, e, small, room))
@@ -215,6 +215,19 @@ module _ {B : Type 0} {state : B → BlocksState} {old new : B} {held : List Hel
         (all.0, all.1, (lacks.0, lacks.1, omega (arith, more, lacks.2))));
   }
 
+  -- how far the file has grown
+  grows_after : (xs xs' : List SnapshotView) (fetched : ℕ) (u : Patch) → u.domain.now ≡ h.signature.domain → u.kind ≡ kind → GrowsFor u (state old) (index_at h j) (state new)
+      → GrowsToWrite state name j u.area.now (numbers_in u.area.now u.numbers.now) (view_of state old held xs fetched) (view_of state new (set held i h') xs' fetched)
+  grows_after xs xs' fetched u domain same grows sure n needs =
+      let facts = known_named (state old) held name h w.is_held (i, w.at, w.was) in
+      let numbers = numbers_in u.area.now u.numbers.now in
+      let index : get_or (indexes_of held) i [] ≡ h.fields.items = indexes_at held i h place w.was in
+      let there = rw (facts.at, (found_named (state old).content name j held i w.at).1, index, slice_get-get_or h.fields.items j [] w.field) at needs in
+      let of = kind_has (slice_get h.signature.fields j) kind (λ (k : FieldType). (tiles : List ℕ) × AreMeeting h.signature.domain u.area.now tiles
+      × (n ≡ new_blocks (λ tile. tile_blocks k (cells_after k h.signature.domain (index_at h j) (state old).content u.area.now numbers tile)) tiles)) w.of_kind there in
+      let most = rw (same, domain) at (grows sure) in
+      rw of.2 (most of.0 of.1)
+
 -- all that a write of a patch leaves of a store, as callers see it
 pub record Wrote {B T : Type 0} (state : B → BlocksState) (old new : B) (held held' : List Held) (xs xs' : List SnapshotView) (name : List ℕ) (i j : ℕ) (area : List Axis) (numbers : Numbers) (catalogue fetched : ℕ) (r : Result T Fault) : Type 0 where
   pub is_held : IsHeld (state new) held'
@@ -223,18 +236,19 @@ pub record Wrote {B T : Type 0} (state : B → BlocksState) (old new : B) (held 
   pub done : OnOk r (Writes state name j area (numbers_in area numbers) catalogue (view_of state old held xs fetched) (view_of state new held' xs' fetched))
   pub same : OnErr r (Stays state (view_of state old held xs fetched) (view_of state new held' xs' fetched))
   pub why : Refuses r (IsDamagedUnder state name j area (view_of state old held xs fetched)) (LacksRoomToWrite state name j area (numbers_in area numbers) catalogue (view_of state old held xs fetched))
+  pub grows : GrowsToWrite state name j area (numbers_in area numbers) (view_of state old held xs fetched) (view_of state new held' xs' fetched)
 
 pub wrote : {B T : Type 0} (state : B → BlocksState) (old new : B) (held : List Held) (name : List ℕ) (i j : ℕ) (h h' : Held) (x x' : Index) (u : Patch) (xs xs' : List SnapshotView) (catalogue rest fetched : ℕ) (r : Result T Fault)
     → IsHeld (state old) held → (at : IsNamedAt name held i) → h ≡ get_or held i h → HasPatch name j u.area.now u.numbers.now (coverages_of (state old).content held) → x ≡ get_or h.fields.items j x → u.domain.now ≡ h.signature.domain
     → HasKind h.signature.fields j u.kind → h'.signature ≡ h.signature → h'.fields.items ≡ set h.fields.items j x' → IsIndex x' → IsRestSize held i j catalogue rest → free_of (state new) < 2 ^ 32
-    → OnOk r (Patches u (state old) x (state new) x') → OnOk r (IsSound u.domain.now (state new) x') → OnOk r (Moves (listed x) (listed x') (state old) (state new)) → OnOk r (UsesOnce (state old) (state new)) → OnOk r (HasRoom rest x' (state new))
-    → OnErr r (x' ≡ x) → OnErr r (Moves none none (state old) (state new)) → RefusesPatch r u rest (state old) x
+    → OnOk r (Patches u (state old) x (state new) x') → OnOk r (IsSound u.domain.now (state new) x') → OnOk r (Relists x x' (state old) (state new)) → OnOk r (HasRoom rest x' (state new))
+    → OnErr r (x' ≡ x) → OnErr r (Moves none none (state old) (state new)) → RefusesPatch r u rest (state old) x → GrowsFor u (state old) x (state new)
     → Wrote state old new held (set held i h') xs xs' name i j u.area.now u.numbers.now catalogue fetched r
-wrote state old new held name i j h h' x x' u xs xs' catalogue rest fetched r is at was has read domain kind signature fields index least small done sound moves once room same kept why =
+wrote state old new held name i j h h' x x' u xs xs' catalogue rest fetched r is at was has read domain kind signature fields index least small done sound lists room same kept why grows =
     let t = named_field (state old) held name j h is (i, at, was) (patch_field (coverages_of (state old).content held) name j u.area.now u.numbers.now has) in
     let here : x ≡ index_at h j = get_or_read h.fields.items j x t.indexed read [] in
     let before : IsSound u.domain.now (state old) x = rw (domain, here) t.sound in
-    let out = outcome r u (state old) (state new) x x' before done sound moves same kept in
+    let out = outcome r u (state old) (state new) x x' before done sound lists same kept in
     let w : Write state old new held name i j u.kind h h' x' = record {
       is_held = is;
       at = at;
@@ -251,7 +265,8 @@ wrote state old new held name i j h h' x x' u xs xs' catalogue rest fetched r is
       is_held = held_after w index;
       kept = λ sure. (others w sure).0;
       intact = still_intact_after w xs xs' fetched;
-      done = done_after w xs xs' catalogue rest fetched u r domain refl least (rw t.facts.at at has).0 small (rw here at done) once room;
+      done = done_after w xs xs' catalogue rest fetched u r domain refl least (rw t.facts.at at has).0 small (rw here at done) (rw here at lists) room;
       same = stays_after w xs xs' fetched r (rw here at same) kept;
       why = why_after w xs catalogue rest fetched u r domain refl least (rw here at why);
+      grows = grows_after w xs xs' fetched u domain refl (rw here at grows);
     }

@@ -14,7 +14,7 @@ use Rattle.block_file.specs.State.{BlocksState, block, free_of}
 use Rattle.block_file.specs.Words.{Covers}
 use Rattle.tile_index.specs.Bytes.{index_bytes}
 use Rattle.tile_index.specs.Index.{IsIndex}
-use Rattle.tile_store.specs.Room.{AreMeeting, cells_after, tile_blocks, room_for}
+use Rattle.tile_store.specs.Room.{AreMeeting, cells_after, tile_blocks, new_blocks, room_for}
 use Rattle.raster_store.specs.declared.fault.WriteFault.{WriteFault}
 use Rattle.raster_store.specs.declared.fault.WriteFault.TheVariants.{OutsideDomain, ValueCount, ValueRange, Device}
 use Rattle.raster_store.specs.Views.{Index, coverages_in, listed_fields, listed_all, metadata_size, AreBelow}
@@ -110,8 +110,16 @@ abbrev pub blocks_with : Coverage → Field → Index → List ℕ → List Axis
 blocks_with c f index content area numbers tile =
     tile_blocks f.kind (cells_after f.kind c.domain index content area numbers tile)
 
--- Fewer blocks are free than the new tiles of a box and the metadata after it need, which are the field's index and other
--- metadata of `rest` bytes; `blocks` says how many a new tile of a field takes.
+-- so many blocks the new tiles of a box take; `blocks` says how many a new tile of a field takes
+abbrev pub NeedBlocks : (Coverage → Field → Index → ℕ → ℕ) → List ℕ → ℕ → List Axis → Store → List (List Index) → ℕ
+    → Type 0
+NeedBlocks blocks name field area coverages indexes n =
+    IsSomeAnd (found name coverages) (λ c. IsSomeAnd (slice_get c.fields field) (λ (f : Field).
+    IsSomeAnd (index_of name field coverages indexes) (λ i.
+    (tiles : List ℕ) × AreMeeting c.domain area tiles × (n ≡ new_blocks (blocks c f i) tiles))))
+
+-- Fewer blocks are free than the new tiles of a box and the metadata after it need, which are the field's index and
+-- other metadata of `rest` bytes; `blocks` says how many a new tile of a field takes.
 abbrev pub LacksBlocks : (Coverage → Field → Index → ℕ → ℕ) → List ℕ → ℕ → List Axis → ℕ → ℕ → Store → List (List Index)
     → Type 0
 LacksBlocks blocks name field area catalogue free coverages indexes =
@@ -123,4 +131,5 @@ LacksBlocks blocks name field area catalogue free coverages indexes =
 -- so it is where these numbers are put into the box
 abbrev pub LacksRoomFor : List ℕ → ℕ → List Axis → List ℤ → ℕ → BlocksState → Store → List (List Index) → Type 0
 LacksRoomFor name field area numbers catalogue s coverages indexes =
-    LacksBlocks (λ c f i. blocks_with c f i s.content area numbers) name field area catalogue (free_of s) coverages indexes
+    LacksBlocks (λ c f i. blocks_with c f i s.content area numbers) name field area catalogue (free_of s) coverages
+    indexes

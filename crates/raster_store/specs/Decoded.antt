@@ -1,5 +1,5 @@
--- What a store keeps of tiles that were read, each by the version of its coverage: the cells of some, in row-major order,
--- and of more that they were tested.
+-- What a store keeps of tiles that were read, each by the version of its coverage: the cells of some, in row-major
+-- order, and of more that they were tested.
 use Rattle.std.specs.Prelude.{◌≡◌, ℤ, List, [], Option, Some, None, Contains, ◌⊎◌}
 use Rattle.arr_core.specs.declared.runs.RunList.{RunList}
 use Rattle.arr_core.specs.Runs.{cells_of}

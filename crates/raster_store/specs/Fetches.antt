@@ -5,7 +5,6 @@ use Rattle.arr_core.specs.declared.domain.Axis.{Axis}
 use Rattle.arr_core.specs.Domains.{points, count, IsBoxOf}
 use Rattle.arr_core.specs.Stores.{Coverage, Store, found, value_at}
 use Rattle.arr_core.specs.Tiles.{tile_boxes, tile_box, TileMeets}
-use Rattle.arr_core.specs.Meeting.{tile_number}
 use Rattle.block_file.specs.State.{BlocksState}
 use Rattle.tile_store.specs.Stored.{IsTileSpelled}
 use Rattle.raster_store.specs.Views.{Index, RasterView}
@@ -58,8 +57,8 @@ AreRankedCells at ranks coverages cells =
     IsSomeAnd (slice_get coverages at.coverage)
     (λ c. cells ≡ map (λ (r : ℕ). value_at c at.field (slice_index_or (points (tile_box c.domain at.tile)) r [])) ranks)
 
--- Cells are those of a tile of a store at some ranks: one for each, and, where the disk is honest, the values there, of a
--- tile that is spelled, its other cells too.
+-- Cells are those of a tile of a store at some ranks: one for each, and, where the disk is honest, the values there, of
+-- a tile that is spelled, its other cells too.
 pub record ArePickedIn (s : BlocksState) (coverages : Store) (indexes : List (List Index)) (at : TileAt)
     (ranks : List ℕ) (cells : List ℤ) : Type 0 where
   pub counted : length cells ≡ length ranks
@@ -78,17 +77,6 @@ abbrev pub IsDamagedAt : {B : Type 0} → (B → BlocksState) → TileAt → Ras
 IsDamagedAt state at v =
     IsTrue (state v.blocks).honest → IsSpelledAt at (state v.blocks).content v.coverages v.indexes → ⊥
 
--- the coverage with a name has a tile
-abbrev pub HasTileNumber : List ℕ → ℕ → Store → Type 0
-HasTileNumber name tile coverages = IsSomeAnd (found name coverages) (λ c. tile < length (tile_boxes c.domain))
-
--- cells are those of a tile of a field of the coverage with a name
-pub record AreCellsOf {B : Type 0} (state : B → BlocksState) (name : List ℕ) (field tile : ℕ) (v : RasterView B)
-    (cells : List ℤ) : Type 0 where
-  pub counted : IsSomeAnd (found name v.coverages) (λ c. length cells ≡ length (points (tile_box c.domain tile)))
-  pub values : IsTrue (state v.blocks).honest
-      → IsSomeAnd (found name v.coverages) (λ c. cells ≡ map (value_at c field) (points (tile_box c.domain tile)))
-
 -- A tile of a field of the coverage with a name is spelled: it is not listed, or its bytes spell as many cells of the
 -- field's type as it has points.
 abbrev pub IsSpelledOf : List ℕ → ℕ → ℕ → List ℕ → Store → List (List Index) → Type 0
@@ -101,19 +89,7 @@ abbrev pub IsBadTile : {B : Type 0} → (B → BlocksState) → List ℕ → ℕ
 IsBadTile state name field tile v =
     IsSpelledOf name field tile (state v.blocks).content v.coverages v.indexes → ⊥
 
--- Where the disk is honest: this tile is not spelled; or that of a point; or one that a box meets; or one that it meets
--- and does not cover.
-abbrev pub IsDamagedTile : {B : Type 0} → (B → BlocksState) → List ℕ → ℕ → ℕ → RasterView B → Type 0
-IsDamagedTile state name field tile v = IsTrue (state v.blocks).honest → IsBadTile state name field tile v
-
-abbrev pub IsDamagedCell : {B : Type 0} → (B → BlocksState) → List ℕ → ℕ → List ℤ → RasterView B → Type 0
-IsDamagedCell state name field p v = IsTrue (state v.blocks).honest
-    → IsSomeAnd (found name v.coverages) (λ c. IsBadTile state name field (tile_number c.domain p) v)
-
-abbrev pub IsDamagedBox : {B : Type 0} → (B → BlocksState) → List ℕ → ℕ → List Axis → RasterView B → Type 0
-IsDamagedBox state name field area v = IsTrue (state v.blocks).honest
-    → IsSomeAnd (found name v.coverages) (λ c. (tile : ℕ) × TileMeets c.domain tile area × IsBadTile state name field tile v)
-
+-- where the disk is honest, a tile that a box meets and does not cover is not spelled
 abbrev pub IsDamagedUnder : {B : Type 0} → (B → BlocksState) → List ℕ → ℕ → List Axis → RasterView B → Type 0
 IsDamagedUnder state name field area v = IsTrue (state v.blocks).honest
     → IsSomeAnd (found name v.coverages)

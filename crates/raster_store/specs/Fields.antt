@@ -22,7 +22,7 @@ use Rattle.tile_store.specs.Faults.{Refuses}
 use Rattle.block_file.specs.State.{BlocksState}
 use Rattle.raster_store.specs.Views.{RasterView, metadata_size}
 use Rattle.raster_store.specs.Fetches.{IsDamagedUnder}
-use Rattle.raster_store.specs.Words.{LacksRoomToWrite, Writes, WritesBox, RefusesBox}
+use Rattle.raster_store.specs.Words.{GrowsToWrite, LacksRoomToWrite, Writes, WritesBox, RefusesBox}
 use Rattle.raster_store.specs.declared.fault.WriteFault.{WriteFault}
 use Rattle.raster_store.specs.Holding.{index_at, indexes_of, IsNamedAt}
 
@@ -46,11 +46,16 @@ abbrev pub cells_in : List Axis → Cells → List Cell
 cells_in area (written.Each cells) = cells.now
 cells_in area (written.Same cell) = filled area cell
 
--- such cells were written into a box of a field, and why they are not
+-- such cells were written into a box of a field, how far the file has grown, and why they are not written
 abbrev pub PutsCells : {B : Type 0} → (B → BlocksState) → List ℕ → ℕ → List Axis → Cells → ℕ
     → RasterView B → RasterView B → Type 0
 PutsCells state name field area cells catalogue old new =
     WritesBox state name field area (cells_in area cells) catalogue old new
+
+abbrev pub GrowsToPut : {B : Type 0} → (B → BlocksState) → List ℕ → ℕ → List Axis → Cells → RasterView B → RasterView B
+    → Type 0
+GrowsToPut state name field area cells old new =
+    GrowsToWrite state name field area (map stored (cells_in area cells)) old new
 
 abbrev pub RefusesPutCells : {B : Type 0} → (B → BlocksState) → List ℕ → ℕ → List Axis → Cells → ℕ
     → RasterView B → WriteFault → Type 0

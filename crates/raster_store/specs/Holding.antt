@@ -129,7 +129,8 @@ IsTileOf s h field tile cells =
 -- a tile of a coverage is not spelled, if the disk is honest
 abbrev pub IsDamagedIn : BlocksState → Held → ℕ → ℕ → Type 0
 IsDamagedIn s h field tile =
-    IsTrue s.honest → IsSpelledAt (tile_in field tile) s.content (coverages_of s.content (h ∷ [])) (indexes_of (h ∷ [])) → ⊥
+    IsTrue s.honest → IsSpelledAt (tile_in field tile) s.content (coverages_of s.content (h ∷ [])) (indexes_of (h ∷ []))
+    → ⊥
 
 -- The version of a coverage that comes or is written, where `next` is the next one, and the one behind it. At the last
 -- number there is none.
@@ -150,21 +151,23 @@ AddsOf s h old new =
     (key : TileKey) (known : Known) → IsKept key known new
     → IsKept key known old ⊎ ((h.version ≡ Some key.version) × IsTileIn s (told_by h) key known)
 
--- What versions coverages have are below a number and tell what a table says of them, and what is kept of a tile of such
--- a version is true of theirs.
-pub record AreVersions (s : BlocksState) (table : ℕ → Version) (next : ℕ) (kept : Kept) (held : List Held) : Type 0 where
-  pub like : (n : ℕ) → All (λ (h : Held). h.version ≡ Some n → table n ≡ told_by h) held
-  pub below : (n : ℕ) → All (λ (h : Held). h.version ≡ Some n → n < next) held
-  pub tiles : (key : TileKey) (known : Known) → IsKept key known kept
-      → All (λ (h : Held). h.version ≡ Some key.version → IsTileIn s (told_by h) key known) held
+-- What versions coverages have are below a number and tell what a table says of them, and what is kept of a tile of
+-- such a version is true of theirs.
+pub record AreVersions (s : BlocksState) (table : ℕ → Version) (next : ℕ) (kept : Kept) (held : List Held) : Type 0
+  where
+    pub like : (n : ℕ) → All (λ (h : Held). h.version ≡ Some n → table n ≡ told_by h) held
+    pub below : (n : ℕ) → All (λ (h : Held). h.version ≡ Some n → n < next) held
+    pub tiles : (key : TileKey) (known : Known) → IsKept key known kept
+        → All (λ (h : Held). h.version ≡ Some key.version → IsTileIn s (told_by h) key known) held
 
--- Coverages of a store, and those that are held for jobs, with the same version are the same, and each tile that is kept
--- of a version is theirs. The number is above all versions, also of tiles whose coverage is there no more.
-pub record AreDecoded (s : BlocksState) (next : ℕ) (kept : Kept) (held : List Held) (others : List Snapshot) : Type 0 where
-  pub table : ℕ → Version
-  pub known : (key : TileKey) (what : Known) → IsKept key what kept → key.version < next
-  pub own : AreVersions s table next kept held
-  pub jobs : All (λ (x : Snapshot). AreVersions s table next kept x.coverages.items) others
+-- Coverages of a store, and those that are held for jobs, with the same version are the same, and each tile that is
+-- kept of a version is theirs. The number is above all versions, also of tiles whose coverage is there no more.
+pub record AreDecoded (s : BlocksState) (next : ℕ) (kept : Kept) (held : List Held) (others : List Snapshot) : Type 0
+  where
+    pub table : ℕ → Version
+    pub known : (key : TileKey) (what : Known) → IsKept key what kept → key.version < next
+    pub own : AreVersions s table next kept held
+    pub jobs : All (λ (x : Snapshot). AreVersions s table next kept x.coverages.items) others
 
 -- a store, what is held of it for jobs, and the tiles that are kept decoded, by the versions of their coverages
 pub record IsStore (s : BlocksState) (held : List Held) (others : List Snapshot) (next : ℕ) (kept : Kept) : Type 0 where

@@ -1,22 +1,22 @@
 -- What the calls of a store do to it, from its view before to its view after. Of the blocks below, what their state
 -- tells.
-use Rattle.std.specs.Prelude.{◌≡◌, ℕ, ◌<◌, ◌≤◌, ℤ, IsTrue, List, [], ◌∷◌, ◌++◌, map, length, replicate, IsSomeAnd}
+use Rattle.std.specs.Prelude.{◌≡◌, ℕ, ◌<◌, ◌≤◌, ℤ, IsTrue, List, [], ◌∷◌, ◌++◌, map, replicate, IsSomeAnd}
 use Rattle.arr_core.specs.declared.cell.Cell.{Cell}
 use Rattle.arr_core.specs.declared.domain.Axis.{Axis}
 use Rattle.arr_core.specs.declared.signature.Signature.{Signature}
 use Rattle.arr_core.specs.Cells.{stored}
-use Rattle.arr_core.specs.Domains.{points, count}
-use Rattle.arr_core.specs.Stores.{found, inserted, deleted, updated, value_at}
+use Rattle.arr_core.specs.Domains.{count}
+use Rattle.arr_core.specs.Stores.{found, inserted, deleted, updated}
 use Rattle.block_file.specs.State.{BlocksState, free_of, none}
 use Rattle.block_file.specs.Words.{OnlyReads, Recounts, Moves}
+use Rattle.block_file.specs.Growth.{GrowsBy}
 use Rattle.disk_face.specs.Disk.{Tells}
 use Rattle.tile_store.specs.declared.fault.Fault.TheVariants as device
 use Rattle.tile_store.specs.Listing.{UsesOnce}
-use Rattle.tile_store.specs.Room.{AreMeeting}
 use Rattle.raster_store.specs.declared.fault.WriteFault.{WriteFault}
 use Rattle.raster_store.specs.declared.fault.WriteFault.TheVariants.{Device}
-use Rattle.raster_store.specs.Views.{Index, RasterView, coverage_in, AreIntact, AreBelow, listed_all, reserve, Fetched}
-use Rattle.raster_store.specs.Calls.{signature_of, AreSameSignatures, HasNumbers, RefusesCells, LacksRoomFor}
+use Rattle.raster_store.specs.Views.{Index, RasterView, coverage_in, AreIntact, AreBelow, listed_all, reserve}
+use Rattle.raster_store.specs.Calls.{signature_of, AreSameSignatures, HasNumbers, NeedBlocks, RefusesCells, LacksRoomFor, blocks_with}
 use Rattle.raster_store.specs.Calls.{filled, indexes_with, indexes_without}
 use Rattle.raster_store.specs.Fetches.{IsDamagedUnder}
 use Rattle.raster_store.specs.Tiles.{KeepsTiles, WritesTiles}
@@ -81,24 +81,6 @@ pub record Creates {B : Type 0} (state : B → BlocksState) (s : Signature) (cat
 abbrev pub LacksRoomToCreate : {B : Type 0} → (B → BlocksState) → Signature → ℕ → RasterView B → Type 0
 LacksRoomToCreate state s catalogue v = free_of (state v.blocks) < reserve catalogue (indexes_with s v.indexes)
 
--- this is the stored number of a field at a point
-abbrev pub IsCell : {B : Type 0} → (B → BlocksState) → List ℕ → ℕ → List ℤ → RasterView B → ℤ → Type 0
-IsCell state name field p v z =
-    IsTrue (state v.blocks).honest → IsSomeAnd (found name v.coverages) (λ c. z ≡ value_at c field p)
-
--- these are the stored numbers of a field at the points of a box, in row-major order
-pub record AreBoxCells {B : Type 0} (state : B → BlocksState) (name : List ℕ) (field : ℕ) (area : List Axis)
-    (v : RasterView B) (cells : List ℤ) : Type 0 where
-  pub counted : length cells ≡ length (points area)
-  pub values : IsTrue (state v.blocks).honest
-      → IsSomeAnd (found name v.coverages) (λ c. cells ≡ map (value_at c field) (points area))
-
--- the tiles that a box of a coverage meets were fetched
-abbrev pub FetchesBox : {B : Type 0} → List ℕ → List Axis → RasterView B → RasterView B → Type 0
-FetchesBox name area old new =
-    IsSomeAnd (found name old.coverages)
-    (λ c. (tiles : List ℕ) × AreMeeting c.domain area tiles × Fetched (length tiles) old.fetched new.fetched)
-
 -- What a write of numbers, as these cells are stored, into a box of a field has done: function update on the box, and
 -- what becomes of the tiles, where the disk is honest. What other indexes list is kept, a block that was free is in use
 -- once at most, and so many blocks are free that the metadata has room.
@@ -130,6 +112,23 @@ abbrev pub LacksRoomToWrite : {B : Type 0} → (B → BlocksState) → List ℕ 
 LacksRoomToWrite state name field area numbers catalogue v =
     IsTrue (state v.blocks).honest
     → LacksRoomFor name field area numbers catalogue (state v.blocks) v.coverages v.indexes
+
+-- However a write of numbers into a box of a field ended, the file of an honest disk has grown by no more than the
+-- blocks of the new tiles.
+abbrev pub GrowsToWrite : {B : Type 0} → (B → BlocksState) → List ℕ → ℕ → List Axis → List ℤ
+    → RasterView B → RasterView B → Type 0
+GrowsToWrite state name field area numbers old new =
+    IsTrue (state old.blocks).honest
+    → (n : ℕ) → NeedBlocks (λ c f i. blocks_with c f i (state old.blocks).content area numbers) name field area
+    old.coverages
+    old.indexes n
+    → GrowsBy n (state old.blocks) (state new.blocks)
+
+-- the same of one cell at every point of a box
+abbrev pub GrowsToFill : {B : Type 0} → (B → BlocksState) → List ℕ → ℕ → List Axis → Cell → RasterView B → RasterView B
+    → Type 0
+GrowsToFill state name field area cell old new =
+    GrowsToWrite state name field area (replicate (count area) (stored cell)) old new
 
 -- Why cells are not written into a box: for the first that is wrong of the box, the number of cells, and their types;
 -- and where these are right, for the device, for room only where it was wanting, and as damaged only where a tile was

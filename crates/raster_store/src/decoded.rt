@@ -27,13 +27,13 @@ const MARKS: usize = 65536;
 /// How far apart the places of tiles of one number are, of versions and of fields that follow one another.
 const STRIDE: u64 = 4099;
 
-/// The cells of tiles by the versions of their coverages, as they were read, in the order of their last use, and
-/// marks of tiles that were tested, which is to say read whole without a refusal. What finds no memory is left out: a
-/// tile, the marks, or the whole. A tile is kept where it was read lately, so that one pass over many tiles drives out
-/// none. Where tiles are being read again, as by a query that names a layer twice, the next few are kept from their first
-/// read on. The last of these is given away at its second read, if it has 32 bits and such tiles are not read once more;
-/// else it goes before the next one is kept, which then takes its memory. Tiles of versions that no coverage has any more
-/// go as the least lately used.
+/// The cells of tiles by the versions of their coverages, as they were read, in the order of their last use, and marks
+/// of tiles that were tested, which is to say read whole without a refusal. What finds no memory is left out: a tile,
+/// the marks, or the whole. A tile is kept where it was read lately, so that one pass over many tiles drives out none.
+/// Where tiles are being read again, as by a query that names a layer twice, the next few are kept from their first
+/// read on. The last of these is given away at its second read, if it has 32 bits and such tiles are not read once
+/// more; else it goes before the next one is kept, which then takes its memory. Tiles of versions that no coverage has
+/// any more go as the least lately used.
 #[derive(Drop)]
 pub(crate) struct DecodedTiles {
     kept: Option<LruCache<TileKey, RunList>>,
@@ -216,8 +216,8 @@ impl DecodedTiles {
         let _served = kept.pop(&fresh);
     }
 
-    /// Notes the key of a tile that was read, and tells whether it is to be kept: where it was noted already, or another
-    /// read of it is expected.
+    /// Notes the key of a tile that was read, and tells whether it is to be kept: where it was noted already, or
+    /// another read of it is expected.
     fn note(&mut self, at: TileKey) -> bool
         ensures { NoneAdded self.old self.new }
     {
@@ -280,7 +280,8 @@ impl DecodedTiles {
         self.put(at, tile);
     }
 
-    /// Keeps the cells of a tile that was read as runs, where another read of it is expected and there is memory for them.
+    /// Keeps the cells of a tile that was read as runs, where another read of it is expected and there is memory for
+    /// them.
     pub(crate) fn keep_runs(&mut self, alloc: Global, at: TileKey, runs: &RunList)
         ensures { Adds at (Some (cells_of runs.now)) self.old self.new }
     {

@@ -1,5 +1,5 @@
-//! Cells of a tile at ranks: of a tile that was tested they are read by themselves, and else the tile is read whole, and
-//! is marked as tested.
+//! Cells of a tile at ranks: of a tile that was tested they are read by themselves, and else the tile is read whole,
+//! and is marked as tested.
 
 ghost use Rattle.std.specs.Prelude.{◌≡◌, ◌∷◌, [], pos, slice_index_or, OnOk, IsErrOf};
 ghost use Rattle.block_file.specs.State.{none};

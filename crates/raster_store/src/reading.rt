@@ -16,8 +16,8 @@ pub struct TileAt {
     pub tile: u64,
 }
 
-/// Which tile: of a coverage as it was while it had a version, of which of its fields, by its place, and which one of its
-/// domain's tiles, by its number.
+/// Which tile: of a coverage as it was while it had a version, of which of its fields, by its place, and which one of
+/// its domain's tiles, by its number.
 #[derive(Clone, Copy, PartialEq, Eq, Hash)]
 pub(crate) struct TileKey {
     pub(crate) version: u64,

@@ -38,8 +38,8 @@ fn read_runs_of<B: Blocks>(
     Ok(())
 }
 
-/// Makes a list that of the stored numbers of a tile: as they are kept decoded, or from its blocks, and then they may be
-/// kept where the coverage has a version.
+/// Makes a list that of the stored numbers of a tile: as they are kept decoded, or from its blocks, and then they may
+/// be kept where the coverage has a version.
 pub(crate) fn fetch_runs_of<B: Blocks>(
     alloc: Global,
     blocks: &mut B,

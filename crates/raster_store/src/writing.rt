@@ -1,7 +1,7 @@
 //! Cells for a box of a field: what they are stored as, and whether the field may have them.
 
 ghost use Rattle.std.specs.Prelude.{◌≡◌, ◌↔◌, ◌<◌, map, length, All, slice_get};
-ghost use Rattle.std.specs.Prelude.{IsSomeAnd, IsErrOf, IfOk, IfErr, OnOk, IsTrue};
+ghost use Rattle.std.specs.Prelude.{IsSomeAnd, IsErrOf, IfOk, IfErr, IsTrue};
 ghost use Rattle.arr_core.specs.Cells.{stored, Holds};
 ghost use Rattle.arr_core.specs.declared.field.Field.{Field};
 ghost use Rattle.raster_store.specs.Calls.{RefusesCells};

@@ -8,7 +8,8 @@ use Rattle.stream_face.specs.Waiting.{IsFlushed}
 
 -- why a store was not opened or not closed: the number of the refusal and its name, as `not opened: 94 NotAStore`
 abbrev pub fault_line : List ℕ → Refusal → List ℕ
-fault_line what refusal = what ++ codes ": " ++ decimal (number_of refusal) ++ codes " " ++ name_of refusal ++ codes "\n"
+fault_line what refusal = what ++ codes ": " ++ decimal (number_of refusal) ++ codes " " ++ name_of refusal ++ codes
+    "\n"
 
 -- the line went out and no byte of it waits, or a first part of it went out up to a fault
 abbrev pub Says : SinkView → SinkView → List ℕ → Type 0

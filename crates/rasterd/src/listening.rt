@@ -5,7 +5,7 @@ use crate::resumed::Resumed;
 use crate::session::{CLOSED, not_closed, not_opened};
 use arr_core::Refusal;
 use coverage_server::Server;
-use disk_face::{Disk, FileDisk, MemDisk};
+use disk_face::{Disk, FileDisk, MemoryDisk};
 use std::alloc::Global;
 use std::net::{Ipv4Addr, SocketAddrV4, TcpListener, TcpStream};
 use std::time::Duration;
@@ -31,8 +31,8 @@ fn serve_stream<D: Disk>(server: &mut Server<D>, stream: &TcpStream) {
     let _end = server.serve_connection(&mut Resumed::new(stream), &mut Resumed::new(stream));
 }
 
-/// Opens the store of a disk, serves so many connections, one after the other, and closes the store. One that could not be
-/// accepted counts as one without messages. Gives the status.
+/// Opens the store of a disk, serves so many connections, one after the other, and closes the store. One that could not
+/// be accepted counts as one without messages. Gives the status.
 fn serve_listener<D: Disk + Drop, E: Sink>(
     alloc: Global,
     disk: D,
@@ -60,8 +60,8 @@ fn serve_listener<D: Disk + Drop, E: Sink>(
     }
 }
 
-/// Serves so many connections at a port of this machine over the store in a file. The socket is bound before the store is
-/// opened. Gives the status.
+/// Serves so many connections at a port of this machine over the store in a file. The socket is bound before the store
+/// is opened. Gives the status.
 pub fn listen<E: Sink>(rt: &HostRuntime, file: &str, port: u16, count: u32, errors: &mut E) -> u8 {
     let alloc = rt.alloc();
     let Ok(listener) = TcpListener::bind(rt, SocketAddrV4::new(Ipv4Addr::LOCALHOST, port)) else {
@@ -69,7 +69,7 @@ pub fn listen<E: Sink>(rt: &HostRuntime, file: &str, port: u16, count: u32, erro
         return NO_SOCKET;
     };
     if file == "-" {
-        let disk = MemDisk::new(Vec::new(alloc));
+        let disk = MemoryDisk::new(Vec::new(alloc));
         return serve_listener(alloc, disk, &listener, count, errors);
     }
     match FileDisk::open(rt, file) {

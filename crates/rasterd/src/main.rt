@@ -11,7 +11,7 @@ mod words;
 
 use arr_core::Refusal;
 use commands::Command;
-use disk_face::{FileDisk, MemDisk};
+use disk_face::{FileDisk, MemoryDisk};
 use lines::say;
 use listening::listen;
 use resumed::Resumed;
@@ -28,8 +28,8 @@ const USAGE: &str = "usage: rasterd FILE run or rasterd FILE listen PORT COUNT\n
 /// The status where the words ask nothing.
 const NO_COMMAND: u8 = 2;
 
-/// Serves one connection, its reader and its writer, over the store in a file, which is made where there is none. Gives the
-/// status.
+/// Serves one connection, its reader and its writer, over the store in a file, which is made where there is none. Gives
+/// the status.
 fn serve_file<R: Source, W: Sink, E: Sink>(
     rt: &HostRuntime,
     file: &str,
@@ -38,7 +38,7 @@ fn serve_file<R: Source, W: Sink, E: Sink>(
 ) -> u8 {
     let alloc = rt.alloc();
     if file == "-" {
-        let disk = MemDisk::new(Vec::new(alloc));
+        let disk = MemoryDisk::new(Vec::new(alloc));
         return session_status(alloc, disk, connection, errors).0;
     }
     match FileDisk::open(rt, file) {
@@ -47,8 +47,8 @@ fn serve_file<R: Source, W: Sink, E: Sink>(
     }
 }
 
-/// Does what the words after the program's name ask, and says on a line of `errors` what was not done. `FILE run` serves the
-/// connection. Gives the status.
+/// Does what the words after the program's name ask, and says on a line of `errors` what was not done. `FILE run`
+/// serves the connection. Gives the status.
 fn run<R: Source, W: Sink, E: Sink>(
     rt: &HostRuntime,
     words: &[String],

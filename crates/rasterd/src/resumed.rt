@@ -14,8 +14,9 @@ use stream_face::{Sink, Source};
 /// How often a call is made at most.
 const MAX_TRIES: u32 = 1000;
 
-/// A reader or a writer whose interrupted calls are made again, and whether a call on it has failed. The system interrupts a
-/// call where the program is stopped and continued, by a signal or a debugger, or the machine is suspended.
+/// A reader or a writer whose interrupted calls are made again, and whether a call on it has failed. The system
+/// interrupts a call where the program is stopped and continued, by a signal or a debugger, or the machine is
+/// suspended.
 #[derive(Drop)]
 pub struct Resumed<T> {
     pub inner: T,

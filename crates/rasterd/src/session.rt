@@ -39,8 +39,8 @@ pub fn not_closed<E: Sink>(errors: &mut E, refusal: Refusal) -> u8
 }
 
 /// Opens the store that a disk holds, serves one connection, its reader and its writer, and closes the store. Gives the
-/// status of the program, and how the session ended: `CLOSED`; or `NOT_OPENED`, where the reader and the writer are as they
-/// were, or `NOT_CLOSED`, with a line of `errors` that says why.
+/// status of the program, and how the session ended: `CLOSED`; or `NOT_OPENED`, where the reader and the writer are as
+/// they were, or `NOT_CLOSED`, with a line of `errors` that says why.
 pub fn session_end<D: Disk + Drop, R: Source, W: Sink, E: Sink>(
     alloc: Global,
     disk: D,

@@ -49,8 +49,8 @@ fn listening<'a>(file: &'a str, verb: &str, port: &str, count: &str) -> Option<C
     Some(Command::Listen(file, port as u16, count))
 }
 
-/// The command that the words after the program's name are: `FILE run`, or `FILE listen PORT COUNT` with a port from 1 to
-/// `MAX_PORT` and a count from 1 to `MAX_CONNECTIONS`, in decimal digits alone.
+/// The command that the words after the program's name are: `FILE run`, or `FILE listen PORT COUNT` with a port from 1
+/// to `MAX_PORT` and a count from 1 to `MAX_CONNECTIONS`, in decimal digits alone.
 pub fn command(words: &[String]) -> Option<Command<'_>>
     ensures some { IfSome result (Asks (map string_bytes words.now)) }
     ensures none { result ≡ None → (c : Asked) → Asks (map string_bytes words.now) c → ⊥ }

@@ -82,8 +82,8 @@ impl Site {
         Ok(answer)
     }
 
-    /// What both sessions answer, where it is the same on devices of each number of blocks from `LEAST` to less than `MOST`
-    /// and of `MORE` bytes besides, which stand as `LEAST..MOST+MORE`; else what first differs.
+    /// What both sessions answer, where it is the same on devices of each number of blocks from `LEAST` to less than
+    /// `MOST` and of `MORE` bytes besides, which stand as `LEAST..MOST+MORE`; else what first differs.
     pub fn on_devices(&self, alloc: Global, rooms: &str) -> Result<String> {
         let (blocks, more) = cut_at(rooms, '+');
         let (least, most) = blocks.split_once("..").context("no bounds")?;

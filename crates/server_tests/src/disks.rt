@@ -87,8 +87,8 @@ impl Site {
         }
     }
 
-    /// Closes the server, and gives the bytes of its disk. Where that is refused the server stays, and the number of the
-    /// refusal is given.
+    /// Closes the server, and gives the bytes of its disk. Where that is refused the server stays, and the number of
+    /// the refusal is given.
     fn closed(&mut self) -> Option<Result<Vec<u8>, u16>> {
         match self.server.take()?.close() {
             Ok(disk) => Some(Ok(disk.into_bytes())),

@@ -1,7 +1,7 @@
 //! What a connection finds of its messages, look by look, and how much of the stream it has read then.
 
 use anyhow::Result;
-use http_front::{Conn, Next, PieceReader};
+use http_front::{Connection, Next, PieceReader};
 use std::alloc::Global;
 use std::str;
 use stream_face::Watched;
@@ -21,10 +21,10 @@ fn say_found(alloc: Global, text: &mut String, found: &Next) -> Result<()> {
 
 /// What so many looks find, each on a line.
 fn found(alloc: Global, source: &mut Watched<PieceReader<'_>>, count: usize) -> Result<String> {
-    let mut conn = Conn::new();
+    let mut connection = Connection::new();
     let mut text = String::new(alloc);
     for _look in 0..count {
-        say_found(alloc, &mut text, &conn.next(alloc, source))?;
+        say_found(alloc, &mut text, &connection.next(alloc, source))?;
     }
     Ok(text)
 }

@@ -143,8 +143,8 @@ fn read_counts(written: &str) -> (TileCounts, &str) {
     (counts, job)
 }
 
-/// Steps a job by one unit, up to a thousand times, until it has none left; the number of tiles that are fetched is held to
-/// what is written before the job.
+/// Steps a job by one unit, up to a thousand times, until it has none left; the number of tiles that are fetched is
+/// held to what is written before the job.
 pub fn stepping(alloc: Global, server: &mut Server<TestDisk>, written: &str) -> Result<String> {
     let (wanted, job) = read_counts(written);
     let pairs = format!(in alloc; "request=StepJob&job={job}&units=1")?;

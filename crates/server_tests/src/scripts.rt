@@ -38,8 +38,8 @@ impl Scripts {
         }
     }
 
-    /// Adds what a call gives, and for `again` what it gives once more where the disk failed. Of what `any` gives nothing
-    /// is added, whatever it is.
+    /// Adds what a call gives, and for `again` what it gives once more where the disk failed. Of what `any` gives
+    /// nothing is added, whatever it is.
     fn step(&mut self, rt: &HostRuntime, answers: &mut Answer, written: &str) -> Result<()> {
         let (word, call) = cut(written);
         if word == "any" {

@@ -87,7 +87,8 @@ impl Site {
         }
     }
 
-    /// What a session wrote, and behind it why it was not closed; or why it was not opened. Names the bytes of its disk.
+    /// What a session wrote, and behind it why it was not closed; or why it was not opened. Names the bytes of its
+    /// disk.
     fn told(
         &mut self,
         alloc: Global,
@@ -108,8 +109,8 @@ impl Site {
         }
     }
 
-    /// What a session on a file writes, on a disk whose call of that number fails, and none for 0. The file `closed` has the
-    /// bytes of its disk then. A server that is not closed stays, as after `open`.
+    /// What a session on a file writes, on a disk whose call of that number fails, and none for 0. The file `closed`
+    /// has the bytes of its disk then. A server that is not closed stays, as after `open`.
     fn session_cut(
         &mut self,
         alloc: Global,

@@ -1,5 +1,5 @@
-//! Calls of the crates of storage: names, domains and tiles, the bytes of tiles, indexes, catalogues and metadata, disks that
-//! fail or lie, files of blocks, and stores of coverages.
+//! Calls of the crates of storage: names, domains and tiles, the bytes of tiles, indexes, catalogues and metadata,
+//! disks that fail or lie, files of blocks, and stores of coverages.
 
 mod blocks;
 mod catalogues;

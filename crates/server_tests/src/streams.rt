@@ -1,7 +1,7 @@
 //! What is written for streams that come in pieces, and whose readers and writers may fail.
 
 use crate::storage::disks::TestDisk;
-use coverage_server::{ConnEnd, Server};
+use coverage_server::{ConnectionEnd, Server};
 use http_front::{PieceReader, PieceWriter};
 use std::alloc::{AllocError, Global};
 use std::io::ErrorKind;
@@ -17,16 +17,17 @@ pub fn taking_all(alloc: Global) -> PieceWriter {
     PieceWriter::new(alloc, usize::MAX, usize::MAX)
 }
 
-/// How a connection ended, where that is by a fault; and what its reader or its writer tells otherwise, if anything: a fault
-/// in another place, or bytes that were not flushed.
-fn ending(end: ConnEnd, read_failed: bool, sink: &Watched<PieceWriter>) -> &'static str {
+/// How a connection ended, where that is by a fault; and what its reader or its writer tells otherwise, if anything: a
+/// fault in another place, or bytes that were not flushed.
+fn ending(end: ConnectionEnd, read_failed: bool, sink: &Watched<PieceWriter>) -> &'static str {
     let written = sink.inner.text().len();
     match end {
-        ConnEnd::WriteFault if !read_failed && sink.failed => " WriteFault",
-        ConnEnd::ReadFault if !sink.failed && sink.inner.flushed() < written => " not flushed",
-        ConnEnd::ReadFault if !sink.failed && read_failed => " ReadFault",
-        ConnEnd::Finished if !sink.failed && sink.inner.flushed() < written => " not flushed",
-        ConnEnd::Finished if !sink.failed && !read_failed => "",
+        ConnectionEnd::WriteFault if !read_failed && sink.failed => " WriteFault",
+        ConnectionEnd::ReadFault if !sink.failed && sink.inner.flushed() < written =>
+            " not flushed",
+        ConnectionEnd::ReadFault if !sink.failed && read_failed => " ReadFault",
+        ConnectionEnd::Finished if !sink.failed && sink.inner.flushed() < written => " not flushed",
+        ConnectionEnd::Finished if !sink.failed && !read_failed => "",
         _ => " another fault",
     }
 }
@@ -66,8 +67,8 @@ pub fn broken(
     served(alloc, server, reader, taking_all(alloc))
 }
 
-/// What is written for a stream whose reader gives so many bytes a read and fails at its first read with a fault of this
-/// kind, then where it fails at its second, and so on up to the read behind the stream.
+/// What is written for a stream whose reader gives so many bytes a read and fails at its first read with a fault of
+/// this kind, then where it fails at its second, and so on up to the read behind the stream.
 pub fn failing(
     alloc: Global,
     server: &mut Server<TestDisk>,
@@ -97,8 +98,8 @@ pub fn limited(
     served(alloc, server, in_one(stream), writer)
 }
 
-/// What is written for a stream by a writer that takes so many bytes a write, and of whose calls, writes and flushes, the
-/// first fails; then where its second fails, and so on until none does.
+/// What is written for a stream by a writer that takes so many bytes a write, and of whose calls, writes and flushes,
+/// the first fails; then where its second fails, and so on until none does.
 pub fn halting(
     alloc: Global,
     server: &mut Server<TestDisk>,

@@ -1,14 +1,13 @@
 -- The cells of tiles: read, written, and as numbers at points.
-use Rattle.std.proofs.Common.{◌≡◌, ℕ, ◌+◌, ◌<◌, List, [], ◌∷◌, length, get_or, map, arith, refl, sym, ◌∙◌, ap, subst, Option, Some, None, IsTrue, inl, inr, Vec, ℤ, pos, ◌≤ℤ◌, if◌then◌else◌, false, Contains, Global}
+use Rattle.std.proofs.Common.{◌≡◌, ℕ, ◌<◌, List, [], ◌∷◌, length, get_or, map, arith, refl, sym, ◌∙◌, ap, Option, Some, None, IsTrue, inl, inr, ℤ, pos, ◌≤ℤ◌, if◌then◌else◌, false}
 use Rattle.std.proofs.lemmas.Int.{ints}
-use Rattle.std.proofs.lemmas.Bool.{cases_lt}
 use Rattle.std.proofs.lemmas.List.Elements.{Contains-get_or}
-use Rattle.std.proofs.lemmas.List.{ext_get_or, get_or-map, length-map, get_or_default}
+use Rattle.std.proofs.lemmas.List.{ext_get_or, get_or-map, length-map}
 use Rattle.arr_core.specs.declared.cell.FieldType.{FieldType}
 use Rattle.arr_core.specs.declared.domain.Axis.{Axis}
 use Rattle.arr_core.specs.Domains.{points, count, rank_of, point_at, AreOrdered, IsInside, IsBoxOf, is_inside}
-use Rattle.arr_core.specs.Tiles.{tile_boxes, IsInTile, tile_box, TileMeets}
-use Rattle.arr_core.proofs.Grids.{in-no-other, in-own-tile}
+use Rattle.arr_core.specs.Tiles.{tile_boxes, tile_box, TileMeets}
+use Rattle.arr_core.proofs.Grids.{in-no-other}
 use Rattle.file_bytes.specs.declared.form.Form.{Form}
 use Rattle.file_bytes.specs.declared.form.Form.TheVariants.{Runs, Raw}
 use Rattle.run_tile.specs.Raw.{Spells}
@@ -18,8 +17,6 @@ use Rattle.block_file.specs.State.{BlocksState, block_at}
 use Rattle.tile_store.specs.Listing.{entry_times}
 use Rattle.tile_store.specs.Stored.{entry_data, IsPadded, cells_read, tile_cells, number_at, IsTileSpelled, KeepsListed}
 use Rattle.tile_store.specs.declared.field.FieldTiles.{FieldTiles}
-use Rattle.tile_store.specs.declared.numbers.Numbers.TheVariants.{Each}
-use Rattle.tile_store.specs.Numbers.{AreNumbers, number_of}
 use Rattle.tile_store.specs.Reading.{IsTileRead, number_in}
 use Rattle.tile_store.specs.Room.{tile_blocks, cells_after, AreMeeting}
 use Rattle.tile_store.specs.Written.{EntrySpells, HasCells, IsWritten, IsRead}
@@ -27,7 +24,7 @@ use Rattle.arr_core.proofs.Points.{length-points, rank-point, point-inside, at_r
 use Rattle.arr_core.specs.Meeting.{tile_number}
 use Rattle.tile_store.specs.Overlays.{Overlaid}
 use Rattle.tile_store.proofs.Fitting.{fits_spelled}
-use Rattle.tile_store.proofs.Rows.{inside_cases, overlaid_same}
+use Rattle.tile_store.proofs.Rows.{inside_cases}
 use Rattle.tile_store.proofs.Kept.{data_same, padded_same, map_same, number_kept}
 
 -- a spelling is read as what it spells
@@ -141,44 +138,6 @@ updated_listed kind domain index content area numbers number tile before after o
       | inr out ↦ overlaid p inside ∙ rw out.0 (old p inside out.0)
     ])
 
--- one tile more was copied: at the points of the tiles so far stand their numbers
-pub tiles_copied : (domain area : List Axis) (tiles : List ℕ) (i : ℕ) (f : List ℤ → ℤ) (old new : List ℤ) → i < length tiles
-    → ((j : ℕ) → j < i → (p : List ℤ) → IsInside (tile_box domain (get_or tiles j 0)) p → IsInside area p → get_or old (rank_of area p) (pos 0) ≡ f p)
-    → Overlaid area (tile_box domain (get_or tiles i 0)) f old new
-    → (j : ℕ) → j < i + 1 → (p : List ℤ) → IsInside (tile_box domain (get_or tiles j 0)) p → IsInside area p → get_or new (rank_of area p) (pos 0) ≡ f p
-tiles_copied domain area tiles i f old new h done overlaid j lt p inside at = elim (inside_cases (tile_box domain (get_or tiles i 0)) p) [
-  | inl t ↦ overlaid p at ∙ rw t.0 refl
-  | inr out ↦ elim (cases_lt j i) [
-    | inl less ↦ overlaid p at ∙ rw out.0 (done j less p inside at)
-    | inr ge ↦ (let this : j ≡ i = omega (arith, lt, ge) in absurd (out.1 (rw (← this) inside)))
-  ]
-]
-
 -- the tiles of a list meet the box
 pub meets_at : (domain area : List Axis) (tiles : List ℕ) (i : ℕ) → AreMeeting domain area tiles → i < length tiles → TileMeets domain (get_or tiles i 0) area
 meets_at domain area tiles i meeting h = (meeting.exact (get_or tiles i 0)).0 (Contains-get_or tiles i 0 h)
-
-pub listed_at : (tiles : List ℕ) (t : ℕ) (c : Contains tiles t) → get_or tiles c.0 0 ≡ t
-listed_at tiles t c = get_or_default tiles c.0 0 t c.1 ∙ c.2
-
--- the tiles that meet a box have all its points
-pub area_copied : (domain area : List Axis) (tiles : List ℕ) (f : List ℤ → ℤ) (cells : List ℤ) → IsBoxOf domain area → AreMeeting domain area tiles → AreOrdered area → length cells ≡ count area
-    → ((j : ℕ) → j < length tiles → (p : List ℤ) → IsInside (tile_box domain (get_or tiles j 0)) p → IsInside area p → get_or cells (rank_of area p) (pos 0) ≡ f p) → cells ≡ map f (points area)
-area_copied domain area tiles f cells box meeting ordered size done = cells_listed area f cells size ordered (λ p inside.
-    let within : IsInside domain p = inside_box domain area p box inside in
-    let own : IsInTile domain (tile_number domain p) p = in-own-tile domain p (tile_number domain p) refl within in
-    let listed : Contains tiles (tile_number domain p) = (meeting.exact (tile_number domain p)).1 (own.0, (p, own.1, inside)) in
-    let stands : get_or tiles listed.0 0 ≡ tile_number domain p = listed_at tiles (tile_number domain p) listed in
-    done listed.0 listed.1 p (rw stands own.1) inside)
-
--- the cells of a tile that was read, as numbers for its box
-pub tile_numbers : (f : FieldTiles) (tile : ℕ) (s : BlocksState) (box : List Axis) (list : Vec ℤ Global) → tile_box f.domain.now tile ≡ box → IsTileRead f tile s list.items → AreNumbers f.kind box (Each list)
-tile_numbers f tile s box list is read = (read.counted ∙ length-points (tile_box f.domain.now tile) ∙ ap count is, read.fit)
-
-pub tile_overlaid : (f : FieldTiles) (tile : ℕ) (s : BlocksState) (area box : List Axis) (list : Vec ℤ Global) (old new : List ℤ) → tile_box f.domain.now tile ≡ box → list.items ≡ map (number_in f s) (points (tile_box f.domain.now tile))
-    → Overlaid area box (λ p. number_of (Each list) (0 + rank_of box p)) old new → Overlaid area (tile_box f.domain.now tile) (number_in f s) old new
-tile_overlaid f tile s area box list old new is numbers overlaid =
-    subst (λ (b : List Axis). Overlaid area b (number_in f s) old new) (sym is)
-    (overlaid_same area box (λ p. number_of (Each list) (0 + rank_of box p)) (number_in f s) old new overlaid (λ p inside.
-    let place : 0 + rank_of box p ≡ rank_of box p = omega arith in
-    rw place (ap (λ (l : List ℤ). get_or l (rank_of box p) (pos 0)) (numbers ∙ ap (λ (b : List Axis). map (number_in f s) (points b)) is) ∙ cell_listed box (number_in f s) p inside)))

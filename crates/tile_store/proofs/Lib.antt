@@ -11,3 +11,4 @@ mod Sizes
 mod Cells
 mod Patched
 mod Exchanged
+mod Growth

@@ -1,38 +1,36 @@
 -- Cells at ranks are those that the tile has there.
-use Rattle.std.proofs.Common.{◌≡◌, ℕ, zero, suc, ◌+◌, ◌-◌, ◌*◌, ◌/◌, ◌%◌, ◌<◌, ◌≤◌, IsTrue, List, [], ◌∷◌, ◌++◌, length, get_or, take, drop, map, replicate, flat_map, All, Option, Some, None, ℤ, pos, Result, Ok, Err, OnOk, arith, refl, sym, ap, ◌∙◌, length-append, set, ◌≢◌, below_more}
+use Rattle.std.proofs.Common.{◌≡◌, ℕ, zero, suc, ◌+◌, ◌-◌, ◌*◌, ◌/◌, ◌%◌, ◌<◌, ◌≤◌, IsTrue, List, [], ◌∷◌, length, get_or, take, map, replicate, flat_map, All, Option, Some, None, ℤ, pos, Result, Ok, Err, OnOk, arith, refl, sym, ap, ◌∙◌, length-append, set, ◌≢◌, below_more}
 use Rattle.std.proofs.lemmas.List.{length-take-le, length-replicate, get_or-take, get_or_append_left, get_or-append_right, get_or-set_other, get_or-set_same}
 use Rattle.std.proofs.lemmas.List.Concat.{flat_map-cons}
 use Rattle.arr_core.specs.declared.cell.FieldType.{FieldType}
 use Rattle.arr_core.specs.declared.cell.FieldType.TheVariants as kind
 use Rattle.arr_core.specs.declared.domain.Axis.{Axis}
-use Rattle.arr_core.specs.Domains.{points, count, rank_of, point_at, AreOrdered, IsDomain, IsInside}
+use Rattle.arr_core.specs.Domains.{points, count, point_at, AreOrdered, IsDomain, IsInside}
 use Rattle.arr_core.specs.Tiles.{tile_boxes, grid, edge_of, tile_box}
 use Rattle.arr_core.proofs.Boxes.{IsDomain-box, tile-small}
 use Rattle.arr_core.proofs.Grids.{ordered-grid, edge-some, length-tile_boxes, get_or-tile_boxes}
-use Rattle.arr_core.proofs.Points.{at_place, length-points, point-inside, rank-point}
+use Rattle.arr_core.proofs.Points.{at_place, point-inside, rank-point}
 use Rattle.file_bytes.specs.declared.form.Form.{Form}
 use Rattle.file_bytes.specs.declared.form.Form.TheVariants.{Raw}
 use Rattle.run_tile.specs.Picking.{picked}
 use Rattle.run_tile.specs.Raw.{raw_cells, raw_count}
 use Rattle.run_tile.specs.Types.{width_of}
 use Rattle.run_tile.proofs.Picks.{raw-at, raw-same, length-raw}
-use Rattle.block_file.specs.State.{BlocksState, block, block_at, times}
+use Rattle.block_file.specs.State.{BlocksState, block, block_at}
 use Rattle.block_file.specs.Words.{OnlyReads}
 use Rattle.block_file.proofs.Times.{times_at}
 use Rattle.tile_index.specs.declared.entry.Entry.{Entry}
-use Rattle.tile_index.specs.Entries.{IsEntry}
 use Rattle.tile_index.specs.Index.{IsIndex, found_at}
 use Rattle.file_bytes.specs.declared.error.ReadError.{ReadError}
 use Rattle.file_bytes.specs.declared.error.ReadError.TheVariants as reading
 use Rattle.tile_store.specs.declared.fault.Fault.{Fault}
 use Rattle.tile_store.specs.Faults.{Refuses, of_read}
 use Rattle.tile_store.specs.declared.field.FieldTiles.{FieldTiles}
-use Rattle.tile_store.specs.Listing.{entry_times, IsSound}
+use Rattle.tile_store.specs.Listing.{IsSound}
 use Rattle.tile_store.specs.Picking.{IsEntryIn, cells_as, IsLast, ArePicks, LackPicks}
 use Rattle.tile_store.specs.Reading.{number_in, ArePicked}
 use Rattle.tile_store.specs.Stored.{entry_data, cells_read, tile_cells}
 use Rattle.tile_store.proofs.Cells.{number_in_tile}
-use Rattle.tile_store.proofs.Kept.{map_same}
 use Rattle.tile_store.proofs.Listed.{found_covered, found_times}
 use Rattle.tile_store.proofs.Sizes.{found_entry}
 

@@ -125,13 +125,6 @@ pub row_within : (a : Axis) (rest axes : List Axis) (row first many step size : 
 row_within a rest axes row first many step size is row_is within lt size_is =
     rw (size_is, is, ← row_is) (omega (arith, mul-le-mul_right row (let h : suc (first + step) ≤ size_of a = omega arith in h), suc-mul (first + step) row))
 
--- the same numbers inside the other box
-pub overlaid_same : (rest area : List Axis) (f g : List ℤ → ℤ) (old new : List ℤ) → Overlaid rest area f old new → ((q : List ℤ) → IsInside area q → f q ≡ g q) → Overlaid rest area g old new
-overlaid_same rest area f g old new overlaid same q h = elim (inside_cases area q) [
-  | inl t ↦ overlaid q h ∙ rw t.0 (same q t.1)
-  | inr e ↦ overlaid q h ∙ rw e.0 refl
-]
-
 -- a part that was lent came back as long as it was
 pub length_lent : (at len row : ℕ) (xs piece : List ℤ) → length piece ≡ length (mid_of at len xs) → len ≡ row → at + row ≤ length xs → length piece ≡ row
 length_lent at len row xs piece same is within = same ∙ length-take-le len (drop at xs) (omega (arith, is, within, length-drop at xs)) ∙ is

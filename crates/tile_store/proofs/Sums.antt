@@ -77,8 +77,8 @@ point : (v : Option Entry → ℕ) (was is : Option Entry) (change : Option (Opt
 point v was is None e = omega (arith, ap v e)
 point v was is (Some c) e = omega (arith, ap v e)
 
--- What the tiles of an index weigh after changes, and what the tiles weighed that were changed, is what the index weighed
--- before and what the changes weigh.
+-- What the tiles of an index weigh after changes, and what the tiles weighed that were changed, is what the index
+-- weighed before and what the changes weigh.
 pub exchanged_sums : (v : Option Entry → ℕ) (n : ℕ) (old new : List (ℕ × Entry)) (changes : List (ℕ × Option Entry)) → v None ≡ 0
     → Ranked n old → Ranked n new → Ranked n changes → ((t : ℕ) → found_at t new ≡ changed_at t changes old)
     → sum_by (λ (x : ℕ × Entry). v (Some x.1)) new + sum_by (λ t. v (found_at t old)) (tiles_of changes) ≡ sum_by (λ (x : ℕ × Entry). v (Some x.1)) old + sum_by (λ (x : ℕ × Option Entry). v x.1) changes

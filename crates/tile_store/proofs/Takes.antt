@@ -3,6 +3,7 @@ use Rattle.std.proofs.Common.{◌≡◌, ℕ, ◌<◌, zero, suc, ◌+◌, ◌-�
 use Rattle.std.proofs.lemmas.Bool.{cases_eq}
 use Rattle.block_file.specs.State.{BlocksState, block, block_at, free_up_to, free_of, times, none}
 use Rattle.block_file.specs.Words.{OnlyReads, Recounts, Moves, Covers, AreLowestFree}
+use Rattle.block_file.specs.Growth.{AreWithin, EndsWith, occupied}
 use Rattle.block_file.proofs.Times.{times_none, times_append}
 use Rattle.block_file.proofs.Frames.{unmoved, moves_then, moves_as}
 use Rattle.block_file.proofs.Free.{free_none, free-suc, free_listed, free_same}
@@ -32,6 +33,8 @@ takes_none taken old new reads = record {
   moves = moves_as none none none (λ k. times taken k - times taken k) old new (λ k. omega arith) (λ k h. h) (unmoved none none old new (λ k. rw reads.uses refl) reads.content (reads.overreads (λ h k some. absurd (omega (arith, some)))) reads.size reads.honest);
   once = λ k. rw reads.uses (omega arith);
   free = omega (arith, free_read old new reads);
+  longer = omega arith;
+  grows = rw reads.content (omega arith);
 }
 
 pub reads_same : (asked : ℕ → ℕ) (s : BlocksState) → OnlyReads asked s s
@@ -44,6 +47,8 @@ takes_then t0 t1 t2 s0 s1 s2 a b = record {
       (λ k. omega (arith, a.more k, b.more k)) (λ k h. omega (arith, h)) (moves_then none (λ k. times t1 k - times t0 k) none (λ k. times t2 k - times t1 k) s0 s1 s2 a.moves b.moves);
   once = λ k. omega (arith, a.once k, b.once k);
   free = omega (arith, a.free, b.free);
+  longer = omega (arith, a.longer, b.longer);
+  grows = omega (arith, a.grows, b.grows, a.free, a.longer, b.longer, a.moves.size);
 }
 
 -- after a read
@@ -62,11 +67,18 @@ takes_fresh n taken fresh taken' old new is free recounts =
         | inr ne ↦ omega (arith, recounts.uses k, free.once k, (free.free k (omega arith)).unused)
       ];
       free = omega (arith, free_taken n fresh old new recounts free, free.count, ap length is, length-append taken fresh);
+      longer = omega (arith, ap length is, length-append taken fresh);
+      grows = rw recounts.content (omega arith);
     }
 
+-- fresh blocks lie among as many as are not free, and as many as came
+pub within_taken : (n count : ℕ) (taken fresh taken' : List ℕ) → taken' ≡ taken ++ fresh → length fresh ≡ count → AreWithin (n + count) fresh → AreWithin (n + (length taken' - length taken)) fresh
+within_taken n count taken fresh taken' is counted within k some = omega (arith, within k some, counted, ap length is, length-append taken fresh)
+
 -- they are written
-pub takes_written : (taken fresh taken' : List ℕ) (s0 s1 s2 : BlocksState) → AreUnused fresh s0 → Takes taken taken' s0 s1 → Moves (times fresh) (times fresh) s1 s2 → Takes taken taken' s0 s2
-takes_written taken fresh taken' s0 s1 s2 unused t m = record {
+pub takes_written : (taken fresh taken' : List ℕ) (s0 s1 s2 : BlocksState) → AreUnused fresh s0 → AreWithin (occupied s0 + (length taken' - length taken)) fresh → Takes taken taken' s0 s1 → Moves (times fresh) (times fresh) s1 s2
+    → EndsWith fresh s1.content s2.content → Takes taken taken' s0 s2
+takes_written taken fresh taken' s0 s1 s2 unused within t m ends = record {
   more = t.more;
   moves = moves_as _ _ none (λ k. times taken' k - times taken k) s0 s2 (λ k. omega arith) (λ k used. elim (cases_eq (times fresh k) 0) [
     | inl none ↦ omega (arith, none, used)
@@ -74,6 +86,8 @@ takes_written taken fresh taken' s0 s1 s2 unused t m = record {
   ]) (moves_then none _ (times fresh) (times fresh) s0 s1 s2 t.moves m);
   once = λ k. omega (arith, t.once k, m.uses k);
   free = omega (arith, t.free, free_kept s1 s2 (λ k. omega (arith, m.uses k)) m.size);
+  longer = t.longer;
+  grows = omega (arith, t.grows, ends (occupied s0 + (length taken' - length taken)) within);
 }
 
 pub covers_taken : (taken : List ℕ) (old new : BlocksState) → Takes [] taken old new → Covers new (times taken)

@@ -3,6 +3,7 @@ use Rattle.std.specs.Prelude.{◌≡◌, ℕ, ◌+◌, ◌-◌, ◌<◌, ◌≤�
 use Rattle.file_bytes.specs.Limits.{block_bytes}
 use Rattle.block_file.specs.State.{BlocksState, block, times, none, free_of}
 use Rattle.block_file.specs.Words.{Moves, Covers}
+use Rattle.block_file.specs.Growth.{GrowsBy}
 use Rattle.arr_core.specs.declared.domain.Axis.{Axis}
 use Rattle.arr_core.specs.Tiles.{tile_boxes}
 use Rattle.tile_index.specs.declared.entry.Entry.{Entry}
@@ -55,17 +56,21 @@ pub record IsSound (domain : List Axis) (s : BlocksState) (index : List (ℕ × 
   pub counted : Covers s (listed index)
   pub whole : IsTrue s.honest → (k : ℕ) → 0 < listed index k → length (block s k) ≡ block_bytes
 
--- the uses of one index became those of another, and nothing else in use has changed
-abbrev pub Relists : Index → Index → BlocksState → BlocksState → Type 0
-Relists index index' = Moves (listed index) (listed index')
-
 -- A block that was in no use is in use at most once, and each other at most as often as it was.
 abbrev pub UsesOnce : BlocksState → BlocksState → Type 0
 UsesOnce old new = (k : ℕ) → new.uses k ≤ max 1 (old.uses k)
 
+-- The uses of one index became those of another, none twice, and nothing else in use has changed.
+pub record Relists (index index' : Index) (old new : BlocksState) : Type 0 where
+  pub moves : Moves (listed index) (listed index') old new
+  pub once : UsesOnce old new
+
 -- The blocks that came to those taken were free and taken once, no more have gone, and nothing else in use has changed.
+-- The file has grown no further than they need.
 pub record Takes (taken taken' : List ℕ) (old new : BlocksState) : Type 0 where
   pub more : (k : ℕ) → times taken k ≤ times taken' k
   pub moves : Moves none (λ k. times taken' k - times taken k) old new
   pub once : UsesOnce old new
   pub free : free_of old + length taken ≤ free_of new + length taken'
+  pub longer : length taken ≤ length taken'
+  pub grows : GrowsBy (length taken' - length taken) old new

@@ -4,6 +4,7 @@ use Rattle.arr_core.specs.Domains.{IsBoxOf}
 use Rattle.arr_core.specs.Stores.{updated_values}
 use Rattle.arr_core.specs.Tiles.{tile_box, TileMeets}
 use Rattle.block_file.specs.State.{BlocksState, free_of}
+use Rattle.block_file.specs.Growth.{GrowsBy}
 use Rattle.tile_store.specs.declared.fault.Fault.{Fault}
 use Rattle.tile_index.specs.Index.{found_at}
 use Rattle.tile_store.specs.declared.numbers.Patch.{Patch}
@@ -11,7 +12,7 @@ use Rattle.tile_store.specs.Listing.{Index, IsSound}
 use Rattle.tile_store.specs.Numbers.{AreNumbers, numbers_in}
 use Rattle.tile_store.specs.Stored.{field_values, IsTileSpelled, IsTilePadded}
 use Rattle.tile_store.specs.Faults.{Refuses}
-use Rattle.tile_store.specs.Room.{cells_after, tile_blocks, entry_blocks, room_for, AreMeeting}
+use Rattle.tile_store.specs.Room.{cells_after, tile_blocks, entry_blocks, new_blocks, room_for, AreMeeting}
 
 -- a box of the domain, and numbers for it in the range of the field's type
 pub record IsPatch (u : Patch) : Type 0 where
@@ -81,6 +82,12 @@ abbrev pub LacksRoom : Patch → ℕ → BlocksState → Index → Type 0
 LacksRoom u rest s index =
     IsTrue s.honest → (tiles : List ℕ) × AreMeeting u.domain.now u.area.now tiles
     × (free_of s < room_for (blocks_after u s index) index tiles rest)
+
+-- however the write of a patch ended, the file of an honest disk has grown by no more than the blocks of the new tiles
+abbrev pub GrowsFor : Patch → BlocksState → Index → BlocksState → Type 0
+GrowsFor u old index new =
+    IsTrue old.honest → (tiles : List ℕ) → AreMeeting u.domain.now u.area.now tiles
+    → GrowsBy (new_blocks (blocks_after u old index) tiles) old new
 
 -- why the write of a patch is refused
 abbrev pub RefusesPatch : {T : Type 0} → Result T Fault → Patch → ℕ → BlocksState → Index → Type 0

@@ -133,6 +133,10 @@ pub record AreWritten (u : Patch) (old : BlocksState) (index : Index) (tiles : L
 abbrev pub Writes : {T : Type 0} → Result T Fault → Patch → BlocksState → Index → List ℕ → Fresh → BlocksState → Type 0
 Writes result u old index tiles fresh new = OnOk result (AreWritten u old index tiles fresh new)
 
+-- on an honest disk the blocks are no more than those of the new tiles
+abbrev pub TakesFew : Patch → BlocksState → Index → List ℕ → List ℕ → Type 0
+TakesFew u s index tiles taken = IsTrue s.honest → length taken ≤ new_blocks (blocks_after u s index) tiles
+
 -- why the writing of tiles is refused
 abbrev pub RefusesTiles : {T : Type 0} → Result T Fault → Patch → List ℕ → BlocksState → Index → Type 0
 RefusesTiles result u tiles s index =

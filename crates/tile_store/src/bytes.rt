@@ -5,6 +5,7 @@ ghost use Rattle.disk_face.specs.Disk.{Tells};
 ghost use Rattle.file_bytes.specs.Limits.{block_bytes};
 ghost use Rattle.block_file.specs.State.{times};
 ghost use Rattle.block_file.specs.Words.{OnlyReads, Moves, Covers, AreBytesOf};
+ghost use Rattle.block_file.specs.Growth.{EndsWith};
 ghost use Rattle.tile_index.specs.Limits.{max_tile_blocks};
 ghost use Rattle.tile_store.specs.Faults.{Refuses};
 ghost use Rattle.tile_store.specs.Written.{AreNeighbours, IsDataRead, HoldsPart, HoldsBytes, AreFresh};
@@ -125,6 +126,7 @@ pub(crate) fn write_bytes<B: Blocks>(
     requires few { length numbers.now < 2 ^ 32 }
     ensures written { OnOk result (HoldsBytes numbers.now bytes.now (B.state blocks.new)) }
     ensures frame { Moves (times numbers.now) (times numbers.now) (B.state blocks.old) (B.state blocks.new) }
+    ensures ends { EndsWith numbers.now (B.state blocks.old).content (B.state blocks.new).content }
     ensures told { Tells (IsErr result) (B.state blocks.old).failures (B.state blocks.new).failures }
 {
     for place in 0..numbers.len() {

@@ -1,27 +1,25 @@
-//! A field: its tiles read, and a box of it read and written.
+//! A field: its tiles read, and a box of it written.
 
-ghost use Rattle.std.specs.Prelude.{◌≡◌, ◌<◌, ◌≤◌, [], length, option_copied, All, IsErrOf, IfOk, OnOk, OnErr, IsTrue};
-ghost use Rattle.arr_core.specs.Cells.{Fits};
-ghost use Rattle.arr_core.specs.Domains.{count, IsInside, IsBoxOf};
+ghost use Rattle.std.specs.Prelude.{◌≡◌, ◌<◌, ◌≤◌, [], length, option_copied, IsErrOf, IfOk, OnOk, OnErr};
+ghost use Rattle.arr_core.specs.Domains.{count};
 ghost use Rattle.arr_core.specs.Tiles.{tile_boxes, tile_box};
 ghost use Rattle.arr_core.specs.Limits.{max_tile};
 ghost use Rattle.disk_face.specs.Disk.{Tells};
-ghost use Rattle.block_file.specs.State.{none, times};
+ghost use Rattle.block_file.specs.State.{none};
 ghost use Rattle.block_file.specs.Words.{OnlyReads, Recounts, Moves, Covers};
 ghost use Rattle.tile_index.specs.Bytes.{index_bytes};
 ghost use Rattle.tile_index.specs.Index.{IsIndex, found_at};
 ghost use Rattle.tile_store.specs.Faults.{Refuses};
-ghost use Rattle.tile_store.specs.Listing.{listed, IsSound, UsesOnce, Relists};
-ghost use Rattle.tile_store.specs.Patches.{CanPatch, Patches, RefusesPatch};
-ghost use Rattle.tile_store.specs.Reading.{IsTileRead, IsTileDamaged, IsPointRead, IsPointDamaged, IsCopied, IsAreaRead, IsAreaDamaged};
-ghost use Rattle.tile_store.specs.Room.{AreMeeting, HasRoom};
+ghost use Rattle.tile_store.specs.Listing.{listed, IsSound, Relists};
+ghost use Rattle.tile_store.specs.Patches.{CanPatch, Patches, GrowsFor, RefusesPatch};
+ghost use Rattle.tile_store.specs.Reading.{IsTileRead, IsTileDamaged};
+ghost use Rattle.tile_store.specs.Room.{HasRoom};
 ghost use Rattle.tile_store.specs.Written.{CanExchange, Exchanges, GivesBack};
 
 use crate::fault::Fault;
-use crate::numbers::{Numbers, Patch};
-use crate::overlay::overlay;
+use crate::numbers::Patch;
 use crate::reserve::has_room;
-use crate::tile::{cell_count, fill_tile, zeros};
+use crate::tile::{cell_count, fill_tile};
 use crate::update::{Fresh, Ready, prepare};
 use arr_core::{Domain, FieldType};
 use block_file::Blocks;
@@ -163,75 +161,6 @@ pub(crate) fn read_tile<B: Blocks>(
     Ok(cells)
 }
 
-/// The stored number at a point.
-pub fn read_point<B: Blocks>(
-    alloc: Global,
-    blocks: &mut B,
-    field: FieldTiles,
-    point: &[i32],
-) -> Result<i64, Fault>
-    requires inside { IsInside field.domain.now point.now }
-    requires used { Covers (B.state blocks.old) (listed field.index.now) }
-    ensures read { IfOk result (IsPointRead field.entry point.now (B.state blocks.old)) }
-    ensures why { Refuses result (IsPointDamaged field.entry point.now (B.state blocks.old)) ⊥ }
-    ensures frame { OnlyReads (listed field.entry.index.now) (B.state blocks.old) (B.state blocks.new) }
-    ensures told { Tells (IsErrOf result Fault.DiskFault) (B.state blocks.old).failures (B.state blocks.new).failures }
-{
-    let tile = field.domain.tile_of(point);
-    let part = part_of(alloc, field.domain, tile)?;
-    let cells = read_tile(alloc, blocks, field, tile)?;
-    Ok(cells[part.rank(point) as usize])
-}
-
-/// Copies the numbers of a tile to the points of a box that are in it.
-fn copy_tile<B: Blocks>(
-    alloc: Global,
-    blocks: &mut B,
-    field: FieldTiles,
-    tile: u64,
-    area: &Domain,
-    cells: &mut [i64],
-) -> Result<(), Fault>
-    requires tile { tile < length (tile_boxes field.domain.now) }
-    requires used { Covers (B.state blocks.old) (listed field.index.now) }
-    requires counted { length cells.old ≡ count area.now }
-    requires fit { All (Fits field.kind) cells.old }
-    ensures copied { OnOk result (IsCopied field.entry tile area.now (B.state blocks.old) cells.old cells.new) }
-    ensures fit { All (Fits field.entry.kind) cells.new }
-    ensures why { Refuses result (IsTileDamaged field.entry tile (B.state blocks.old)) ⊥ }
-    ensures frame { OnlyReads (listed field.entry.index.now) (B.state blocks.old) (B.state blocks.new) }
-    ensures told { Tells (IsErrOf result Fault.DiskFault) (B.state blocks.old).failures (B.state blocks.new).failures }
-{
-    let part = part_of(alloc, field.domain, tile)?;
-    let numbers = Numbers::Each(read_tile(alloc, blocks, field, tile)?);
-    overlay(cells, area.axes(), &numbers, 0, part.axes());
-    Ok(())
-}
-
-/// The stored numbers of a box at its points in row-major order, from the tiles that it meets, whose numbers these
-/// are. `Damaged` comes where one of them is not spelled as the format says.
-pub fn read_area<B: Blocks>(
-    alloc: Global,
-    blocks: &mut B,
-    field: FieldTiles,
-    area: &Domain,
-    tiles: &[u64],
-) -> Result<Vec<i64>, Fault>
-    requires area { IsBoxOf field.domain.now area.now }
-    requires tiles { AreMeeting field.domain.now area.now tiles.now }
-    requires used { Covers (B.state blocks.old) (listed field.index.now) }
-    ensures read { IfOk result (λ cells. IsAreaRead field.entry area.now (B.state blocks.old) cells.items) }
-    ensures why { Refuses result (IsAreaDamaged field.entry area.now (B.state blocks.old)) ⊥ }
-    ensures frame { OnlyReads (listed field.entry.index.now) (B.state blocks.old) (B.state blocks.new) }
-    ensures told { Tells (IsErrOf result Fault.DiskFault) (B.state blocks.old).failures (B.state blocks.new).failures }
-{
-    let mut cells = zeros(alloc, cell_count(area))?;
-    for tile in tiles {
-        copy_tile(alloc, blocks, field, *tile, area, &mut cells)?;
-    }
-    Ok(cells)
-}
-
 /// Gives the index its new tiles, and gives back the blocks of those that they replace. Where memory is wanting, the
 /// blocks that were taken are given back, and the field stays as it is.
 fn exchange<B: Blocks>(
@@ -264,7 +193,8 @@ fn exchange<B: Blocks>(
 }
 
 /// Writes a patch into its field. The other metadata has `rest` bytes, or more than a `u64` holds where that is its
-/// last value. After a refusal the field is as before, and no block is used otherwise.
+/// last value. After a refusal the field is as before, and no block is used otherwise. The new tiles lie in the lowest
+/// blocks that are free.
 pub fn write_area<B: Blocks>(
     alloc: Global,
     blocks: &mut B,
@@ -276,10 +206,10 @@ pub fn write_area<B: Blocks>(
     ensures done { OnOk result (Patches patch.now (B.state blocks.old) field.old (B.state blocks.new) field.new) }
     ensures sound { OnOk result (IsSound patch.now.domain.now (B.state blocks.new) field.new) }
     ensures frame { OnOk result (Relists field.old field.new (B.state blocks.old) (B.state blocks.new)) }
-    ensures once { OnOk result (UsesOnce (B.state blocks.old) (B.state blocks.new)) }
     ensures room { OnOk result (HasRoom rest field.new (B.state blocks.new)) }
     ensures same { OnErr result (field.new ≡ field.old) }
     ensures kept { OnErr result (Moves none none (B.state blocks.old) (B.state blocks.new)) }
+    ensures grows { GrowsFor patch.now (B.state blocks.old) field.old (B.state blocks.new) }
     ensures why { RefusesPatch result patch.now rest (B.state blocks.old) field.old }
     ensures told { Tells (IsErrOf result Fault.DiskFault) (B.state blocks.old).failures (B.state blocks.new).failures }
 {

@@ -14,9 +14,7 @@ mod tile;
 mod update;
 
 pub use fault::Fault;
-pub use field::{
-    FieldIndex, FieldTiles, give_back, read_area, read_point, read_tile_into, write_area,
-};
+pub use field::{FieldIndex, FieldTiles, give_back, read_tile_into, write_area};
 pub use numbers::{Numbers, Patch};
 pub use picking::pick_tile_into;
 pub use runs::read_runs_into;

@@ -1,7 +1,7 @@
 //! Numbers of a box written over the cells of another, by runs along the last axis. The cells of a box stand in
 //! row-major order of its points.
 
-ghost use Rattle.std.specs.Prelude.{◌≡◌, ℕ, ◌+◌, ◌-◌, ◌*◌, ◌<◌, ◌≤◌, ◌^◌, ◌≤ℤ◌, List, length, slice_index_or, pos, if◌then◌else◌};
+ghost use Rattle.std.specs.Prelude.{◌≡◌, ◌+◌, ◌-◌, ◌*◌, ◌<◌, ◌≤◌, ◌^◌, ◌≤ℤ◌, length, slice_index_or, pos};
 ghost use Rattle.arr_core.specs.Domains.{count, AreOrdered, rank_of};
 ghost use Rattle.arr_core.specs.Limits.{max_points};
 ghost use Rattle.tile_store.specs.Numbers.{HasNumbers, number_of};

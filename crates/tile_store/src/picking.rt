@@ -119,8 +119,8 @@ fn pick_blocks<B: Blocks>(
     }
 }
 
-/// Reads the cells at ranks of a tile that is listed into a buffer, and what stands in its blocks into another, whatever
-/// the two held before.
+/// Reads the cells at ranks of a tile that is listed into a buffer, and what stands in its blocks into another,
+/// whatever the two held before.
 fn pick_entry<B: Blocks>(
     blocks: &mut B,
     kind: FieldType,

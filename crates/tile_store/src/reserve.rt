@@ -1,6 +1,6 @@
 //! How many bytes changes give the index of a field, and how many blocks have to stay free for the metadata.
 
-ghost use Rattle.std.specs.Prelude.{◌≡◌, ℕ, ◌+◌, ◌*◌, ◌<◌, ◌≤◌, ◌^◌, length, sum_by, All, Option, Some, IsTrue, false, option_copied};
+ghost use Rattle.std.specs.Prelude.{◌≡◌, ◌+◌, ◌*◌, ◌<◌, ◌≤◌, ◌^◌, length, All, Option, Some, IsTrue, false, option_copied};
 ghost use Rattle.block_file.specs.Format.{chain_blocks};
 ghost use Rattle.tile_index.specs.declared.entry.Entry.{Entry};
 ghost use Rattle.tile_index.specs.Entries.{IsEntry};

@@ -36,8 +36,8 @@ fn list_zeros(count: usize, runs: &mut RunList) -> Result<(), AllocError>
     Ok(())
 }
 
-/// Makes a list that of the `count` cells of a tile, by its entry, its bytes by way of a buffer. A tile without an entry
-/// is 0 everywhere. After a refusal the list stands for any cells.
+/// Makes a list that of the `count` cells of a tile, by its entry, its bytes by way of a buffer. A tile without an
+/// entry is 0 everywhere. After a refusal the list stands for any cells.
 fn fill_runs<B: Blocks>(
     blocks: &mut B,
     kind: FieldType,
@@ -69,8 +69,8 @@ fn fill_runs<B: Blocks>(
     }
 }
 
-/// Makes a list that of the stored numbers of a tile, by its number, at its points in row-major order: as runs where the
-/// tile lies so, else one by one. The list has a value for each of these points, and keeps as many. Refused as
+/// Makes a list that of the stored numbers of a tile, by its number, at its points in row-major order: as runs where
+/// the tile lies so, else one by one. The list has a value for each of these points, and keeps as many. Refused as
 /// `read_tile_into`; after a refusal the list stands for any numbers, and `bytes` holds anything.
 pub fn read_runs_into<B: Blocks>(
     blocks: &mut B,

@@ -1,6 +1,6 @@
 //! One tile: its cells read by its entry, and written to fresh blocks.
 
-ghost use Rattle.std.specs.Prelude.{◌≡◌, ◌<◌, ◌≤◌, ◌++◌, ◌↔◌, pos, length, All, option_copied, IsErrOf, IfOk, OnOk, IsTrue, replicate};
+ghost use Rattle.std.specs.Prelude.{◌≡◌, ◌<◌, ◌≤◌, ◌+◌, ◌++◌, ◌↔◌, pos, length, All, option_copied, IsErrOf, IfOk, OnOk, IsTrue, replicate};
 ghost use Rattle.std.specs.List.{list_all};
 ghost use Rattle.std.specs.Ordering.{int_eq};
 ghost use Rattle.arr_core.specs.Cells.{Fits};
@@ -9,6 +9,7 @@ ghost use Rattle.arr_core.specs.Limits.{max_tile};
 ghost use Rattle.disk_face.specs.Disk.{Tells};
 ghost use Rattle.block_file.specs.State.{free_of};
 ghost use Rattle.block_file.specs.Words.{OnlyReads, Covers};
+ghost use Rattle.block_file.specs.Growth.{AreWithin, occupied};
 ghost use Rattle.tile_store.specs.Faults.{Refuses};
 ghost use Rattle.tile_store.specs.Listing.{entry_times, Takes};
 ghost use Rattle.tile_store.specs.Room.{tile_blocks};
@@ -88,6 +89,8 @@ fn take_fresh<B: Blocks>(
     ensures added { IfOk result (λ fresh. taken.new.items ≡ taken.old.items ++ fresh.items) }
     ensures fresh { IfOk result (λ fresh. AreFresh fresh.items (B.state blocks.new)) }
     ensures unused { IfOk result (λ fresh. AreUnused fresh.items (B.state blocks.old)) }
+    ensures within { IfOk result (λ fresh. AreWithin (occupied (B.state blocks.old) + count) fresh.items) }
+    ensures few { length taken.new.items ≤ length taken.old.items + count }
     ensures takes { Takes taken.old.items taken.new.items (B.state blocks.old) (B.state blocks.new) }
     ensures why { Refuses result ⊥ (free_of (B.state blocks.old) < count) }
     ensures told { Tells (IsErrOf result Fault.DiskFault) (B.state blocks.old).failures (B.state blocks.new).failures }
@@ -100,8 +103,8 @@ fn take_fresh<B: Blocks>(
     Ok(fresh)
 }
 
-/// Writes the cells of a tile to fresh blocks, in the shorter form; the blocks come after the others in `taken`. There is
-/// no entry for cells that are all 0.
+/// Writes the cells of a tile to fresh blocks, in the shorter form; the blocks come after the others in `taken`. There
+/// is no entry for cells that are all 0.
 pub(crate) fn write_tile<B: Blocks>(
     alloc: Global,
     blocks: &mut B,
@@ -114,6 +117,7 @@ pub(crate) fn write_tile<B: Blocks>(
     requires fit { All (Fits kind) cells.now }
     ensures written { IfOk result (IsNewTile kind (B.state blocks.new) taken.old.items taken.new.items cells.now) }
     ensures takes { Takes taken.old.items taken.new.items (B.state blocks.old) (B.state blocks.new) }
+    ensures few { length taken.new.items ≤ length taken.old.items + tile_blocks kind cells.now }
     ensures why { Refuses result ⊥ (free_of (B.state blocks.old) < tile_blocks kind cells.now) }
     ensures told { Tells (IsErrOf result Fault.DiskFault) (B.state blocks.old).failures (B.state blocks.new).failures }
 {

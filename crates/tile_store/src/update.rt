@@ -1,6 +1,6 @@
 //! New tiles written to fresh blocks.
 
-ghost use Rattle.std.specs.Prelude.{◌≡◌, ◌≢◌, ℕ, ◌+◌, ◌<◌, ◌≤◌, ◌^◌, [], length, All, Option, Some, IsErrOf, IfOk, OnOk, OnErr, option_copied, sum_by};
+ghost use Rattle.std.specs.Prelude.{◌≡◌, ℕ, ◌+◌, ◌<◌, [], length, Option, Some, IsErrOf, IfOk, OnOk, OnErr, option_copied};
 ghost use Rattle.arr_core.specs.Tiles.{tile_boxes, tile_box};
 ghost use Rattle.disk_face.specs.Disk.{Tells};
 ghost use Rattle.block_file.specs.State.{times, none};
@@ -9,9 +9,9 @@ ghost use Rattle.tile_index.specs.declared.entry.Entry.{Entry};
 ghost use Rattle.tile_index.specs.Bytes.{index_bytes};
 ghost use Rattle.tile_store.specs.Faults.{Refuses};
 ghost use Rattle.tile_store.specs.Listing.{AddsBlocks, listed, listed_for, IsSound, Takes};
-ghost use Rattle.tile_store.specs.Patches.{CanPatch, IsPatch, RefusesPatch};
+ghost use Rattle.tile_store.specs.Patches.{CanPatch, IsPatch, GrowsFor, RefusesPatch};
 ghost use Rattle.tile_store.specs.Room.{AreMeeting, replaced_bytes, given_bytes};
-ghost use Rattle.tile_store.specs.Written.{AreBefore, AreAfter, IsCutDamaged, Writes, RefusesTiles, IsSized, IsReady};
+ghost use Rattle.tile_store.specs.Written.{AreBefore, AreAfter, IsCutDamaged, Writes, TakesFew, RefusesTiles, IsSized, IsReady};
 
 use crate::fault::Fault;
 use crate::field::{FieldIndex, FieldTiles, part_of, read_tile};
@@ -112,6 +112,7 @@ fn write_tiles<B: Blocks>(
     requires none { (fresh.old.changes.items ≡ []) × (fresh.old.blocks.items ≡ []) }
     ensures written { Writes result patch.now (B.state blocks.old) field.now tiles.now fresh.new (B.state blocks.new) }
     ensures takes { Takes [] fresh.new.blocks.items (B.state blocks.old) (B.state blocks.new) }
+    ensures few { TakesFew patch.now (B.state blocks.old) field.now tiles.now fresh.new.blocks.items }
     ensures why { RefusesTiles result patch.now tiles.now (B.state blocks.old) field.now }
     ensures told { Tells (IsErrOf result Fault.DiskFault) (B.state blocks.old).failures (B.state blocks.new).failures }
 {
@@ -183,6 +184,7 @@ pub(crate) fn prepare<B: Blocks>(
     requires { CanPatch patch.now (B.state blocks.old) field.now }
     ensures ready { IfOk result (IsReady patch.now (B.state blocks.old) field.now (B.state blocks.new)) }
     ensures kept { OnErr result (Moves none none (B.state blocks.old) (B.state blocks.new)) }
+    ensures grows { GrowsFor patch.now (B.state blocks.old) field.now (B.state blocks.new) }
     ensures why { (rest : ℕ) → RefusesPatch result patch.now rest (B.state blocks.old) field.now }
     ensures told { Tells (IsErrOf result Fault.DiskFault) (B.state blocks.old).failures (B.state blocks.new).failures }
 {

@@ -1,6 +1,6 @@
-//! The coverages over which queries are typed: `lai` with the field v, `wide` with the fields f0 to f63, and, of which no two
-//! have the same domain, u0 to u63 with the field v and w0 to w63 with the fields f0 to f63. Each has the axes x and y. So
-//! have l0 to l63 with the field v, but for two axes more and for names of axes as long as names may be.
+//! The coverages over which queries are typed: `lai` with the field v, `wide` with the fields f0 to f63, and, of which
+//! no two have the same domain, u0 to u63 with the field v and w0 to w63 with the fields f0 to f63. Each has the axes x
+//! and y. So have l0 to l63 with the field v, but for two axes more and for names of axes as long as names may be.
 
 use anyhow::Result;
 use arr_core::{Axis, Domain, Field, FieldType, Fields, Name, Signature};

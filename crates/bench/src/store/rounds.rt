@@ -94,13 +94,18 @@ fn read_window<B: Blocks + Drop>(
     round: u64,
     side: u16,
 ) -> Result<i64> {
-    Ok(grid.sum(&window(alloc, round, side)?)?)
+    Ok(grid.sum(alloc, &window(alloc, round, side)?)?)
 }
 
 /// The number at the place of a round.
-fn read_number<B: Blocks + Drop>(grid: &mut Grid<B>, round: u64, side: u16) -> Result<i64> {
+fn read_number<B: Blocks + Drop>(
+    alloc: Global,
+    grid: &mut Grid<B>,
+    round: u64,
+    side: u16,
+) -> Result<i64> {
     let (row, column) = place(round, side);
-    Ok(grid.number(&[row as i32, column as i32])?)
+    Ok(grid.number(alloc, &[row as i32, column as i32])?)
 }
 
 /// Writes a number at the place of a round.
@@ -131,11 +136,11 @@ fn once<B: Blocks + Drop>(
     match action {
         Action::Fill => grid.fill(whole.area, cell(round))?,
         Action::Values => grid.write(whole.area, whole.cells)?,
-        Action::Read => return Ok(grid.sum(whole.area)?),
+        Action::Read => return Ok(grid.sum(alloc, whole.area)?),
         Action::Window => return read_window(alloc, grid, round, side),
-        Action::Cell => return read_number(grid, round, side),
+        Action::Cell => return read_number(alloc, grid, round, side),
         Action::Again => return read_window(alloc, grid, round % FEW, side),
-        Action::Point => return read_number(grid, round % FEW, side),
+        Action::Point => return read_number(alloc, grid, round % FEW, side),
         Action::Put => put(alloc, grid, round, side)?,
     }
     Ok(0)

@@ -6,15 +6,15 @@ ghost use Rattle.std.specs.Bool.{OnTrue, OnFalse};
 ghost use Rattle.arr_core.specs.Stores.{found};
 ghost use Rattle.tile_store.specs.Faults.{Refuses};
 ghost use Rattle.raster_store.specs.Views.{Fetched, SnapshotView};
-ghost use Rattle.raster_store.specs.Calls.{signature_in, HasField};
-ghost use Rattle.raster_store.specs.Fetches.{IsPlaceOf, HasTile, HasTileNumber, IsFetched, IsDamagedAt};
-ghost use Rattle.raster_store.specs.Fetches.{HasRanks, ArePicked, IsDamagedTile, AreCellsOf};
+ghost use Rattle.raster_store.specs.Calls.{signature_in};
+ghost use Rattle.raster_store.specs.Fetches.{IsPlaceOf, HasTile, IsFetched, IsDamagedAt};
+ghost use Rattle.raster_store.specs.Fetches.{HasRanks, ArePicked};
 ghost use Rattle.raster_store.specs.Words.{TellsFault, OnlyFetches};
 ghost use Rattle.raster_store.specs.Snapshots.{AreNames, held_for, OnHeldFor, Holds, HoldsNone, Releases};
 
 use super::RasterStore;
 use crate::fetching::{TileOf, fetch_of};
-use crate::held::{place_held, place_of};
+use crate::held::place_of;
 use crate::picking::{RanksOf, pick_of};
 use crate::reading::TileAt;
 use crate::snapshot::{Snapshot, blocks_of, copies_of, coverages_for, place_for, release_all};
@@ -103,8 +103,11 @@ impl<B: Blocks> RasterStore<B> {
         }
     }
 
-    /// Reads a tile as `fetch_tile_into` does, of the coverages that are held for a job, by their places there. For
-    /// number 0, where nothing is held for it, of those of the store as it is.
+    /// Reads the stored numbers of a tile into `cells`, whatever it held before, in row-major order, of the coverages
+    /// that are held for a job, by their places there. For number 0, where nothing is held for it, of those of the
+    /// store as it is. `Damaged` comes where the tile was read and its bytes do not spell as many cells as it has
+    /// points, and for no other tile's sake. After a refusal `cells` holds anything, and the tile is not counted as
+    /// fetched.
     pub fn fetch_at(&mut self, job: u64, at: TileAt, cells: &mut Vec<i64>) -> Result<(), Fault>
         requires tile { OnHeldFor job self.old (λ v. HasTile at v.coverages) }
         ensures read { OnOk result (OnHeldFor job self.old (λ v. IsFetched B.state at v cells.new.items)) }
@@ -168,37 +171,6 @@ impl<B: Blocks> RasterStore<B> {
             cells,
         )?;
         self.fetched = self.fetched.saturating_add(1);
-        Ok(())
-    }
-
-    /// Reads a tile as `fetch_tile` does, of the coverage with a name as it is held for a job. For number 0, where
-    /// nothing is held for it, of the coverage as it is.
-    pub fn fetch_tile_at(
-        &mut self,
-        job: u64,
-        name: &Name,
-        field: usize,
-        tile: u64,
-        cells: &mut Vec<i64>,
-    ) -> Result<(), Fault>
-        requires field { OnHeldFor job self.old (λ v. HasField name.now field v.coverages) }
-        requires tile { OnHeldFor job self.old (λ v. HasTileNumber name.now tile v.coverages) }
-        ensures read { OnOk result
-            (OnHeldFor job self.old (λ v. AreCellsOf B.state name.now field tile v cells.new.items)) }
-        ensures why { Refuses result (OnHeldFor job self.old (λ v. IsDamagedTile B.state name.now field tile v)) ⊥ }
-        ensures frame { OnlyFetches B.state self.old self.new }
-        ensures fetched { OnOk result (Fetched 1 self.old.fetched self.new.fetched) }
-        ensures unfetched { OnErr result (self.new.fetched ≡ self.old.fetched) }
-        ensures told { TellsFault (IsErrOf result Fault.DiskFault) B.state self.old self.new }
-    {
-        let coverages = coverages_for(&self.coverages, &self.snapshots, job);
-        let coverage = place_held(coverages, name);
-        let at = TileAt {
-            coverage,
-            field,
-            tile,
-        };
-        self.fetch_at(job, at, cells)?;
         Ok(())
     }
 }

@@ -5,7 +5,7 @@ use crate::growths::counts::{Counts, Part, Wrong};
 use crate::growths::scripted::Script;
 use crate::growths::turns::Turn;
 use anyhow::{Context, Result, bail};
-use disk_face::{FileDisk, MemDisk};
+use disk_face::{FileDisk, MemoryDisk};
 use std::alloc::Global;
 use std::fs;
 use test_rows::{cut, index, text};
@@ -55,7 +55,7 @@ fn given<T>(first: u32, outcome: Result<T, Wrong>) -> Result<T> {
 
 /// The bytes of the file that a turn over a store in memory leaves.
 fn left_in_memory(alloc: Global, turn: &mut Turn, script: &Script) -> Result<Vec<u8>> {
-    let disk = MemDisk::new(Vec::from_slice(alloc, &script.file)?);
+    let disk = MemoryDisk::new(Vec::from_slice(alloc, &script.file)?);
     let disk = given(turn.first, turn.play(alloc, disk, script))?;
     Ok(disk.into_bytes())
 }
@@ -98,8 +98,8 @@ fn report(rt: &HostRuntime, words: &str, turns: u64, counts: &Counts) -> Result<
     Ok(())
 }
 
-/// Plays a script, as `memory 40 1`, so often that each growth has been the first one that is refused, or every so manyth. Where
-/// growths are not refused at all it is played once.
+/// Plays a script, as `memory 40 1`, so often that each growth has been the first one that is refused, or every so
+/// manyth. Where growths are not refused at all it is played once.
 fn play(rt: &HostRuntime, script: &Script, words: &str) -> Result<()> {
     let plan = read_plan(words)?;
     let mut counts = Counts::new();

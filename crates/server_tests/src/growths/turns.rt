@@ -4,7 +4,7 @@ use crate::growths::counts::{Counts, Part, Wrong};
 use crate::growths::refusing::{refuse, was_one_refused};
 use crate::growths::scripted::{REPLY_BEHIND, Script, Step};
 use arr_core::Refusal;
-use coverage_server::{ConnEnd, NotClosed, Server};
+use coverage_server::{ConnectionEnd, NotClosed, Server};
 use disk_face::Disk;
 use http_front::PieceReader;
 use std::alloc::{AllocError, Global};
@@ -32,8 +32,8 @@ pub struct Turn {
     sink: Watched<Vec<u8>>,
 }
 
-/// What stands behind the first reply in what was written, and before it the refusal that this is, where it is not the reply
-/// that is given.
+/// What stands behind the first reply in what was written, and before it the refusal that this is, where it is not the
+/// reply that is given.
 fn parted<'a>(written: &'a [u8], reply: &str) -> Option<(Option<Refusal>, &'a [u8])> {
     if let Some(behind) = written.strip_prefix(reply.as_bytes()) {
         return Some((None, behind));
@@ -122,8 +122,8 @@ impl Turn {
         })
     }
 
-    /// Whether what was written is the reply of a step; else it is a refusal that may stand for one of the growths. Behind
-    /// it stands the reply to the message behind, which may be refused so too.
+    /// Whether what was written is the reply of a step; else it is a refusal that may stand for one of the growths.
+    /// Behind it stands the reply to the message behind, which may be refused so too.
     fn is_replied(&mut self, part: Part, step: &Step) -> Result<bool, Wrong> {
         let other = Wrong {
             part,
@@ -155,7 +155,7 @@ impl Turn {
             self.sink.inner.clear();
             let mut source = Watched::new(PieceReader::new(step.stream.as_bytes(), 0, usize::MAX));
             let end = server.serve_connection(&mut source, &mut self.sink);
-            if end == ConnEnd::Finished && self.is_replied(part, step)? {
+            if end == ConnectionEnd::Finished && self.is_replied(part, step)? {
                 return Ok(());
             }
         }

@@ -120,8 +120,8 @@ impl Volume {
         answer.say("ok");
     }
 
-    /// Takes so many blocks, holds them, gives them back, takes as many others, which it tells, and gives the first back
-    /// once more: after each how many are free. No block that was taken has a name any more.
+    /// Takes so many blocks, holds them, gives them back, takes as many others, which it tells, and gives the first
+    /// back once more: after each how many are free. No block that was taken has a name any more.
     fn hold(&mut self, answer: &mut Answer, count: usize) -> Result<(), TakeFault> {
         self.taken.clear();
         let taken = self.file.take(count)?;

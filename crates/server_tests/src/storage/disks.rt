@@ -2,7 +2,7 @@
 
 use crate::storage::words::DISK_FAULT;
 use anyhow::{Result, bail};
-use disk_face::{Disk, DiskFault, FailDisk, FileDisk, FullFile, MemDisk, StdFile};
+use disk_face::{Disk, DiskFault, FailingDisk, FileDisk, FullFile, MemoryDisk, StdFile};
 use std::alloc::Global;
 use std::fs;
 use test_rows::{Answer, Files, cut, number};
@@ -11,18 +11,18 @@ use test_rows::{Answer, Files, cut, number};
 /// bytes. So of what it reads nothing is said.
 #[derive(Drop)]
 pub struct TestDisk {
-    disk: FailDisk,
+    disk: FailingDisk,
     /// How many reads are left until one lies, or 0 for none.
     left: u64,
     room: u64,
 }
 
 impl TestDisk {
-    /// The disk with these bytes whose call of a number fails, and whose read of a number lies, or none for 0, and that has
-    /// room for so many bytes.
+    /// The disk with these bytes whose call of a number fails, and whose read of a number lies, or none for 0, and that
+    /// has room for so many bytes.
     pub fn new(bytes: Vec<u8>, fails: u64, lies: u64, room: u64) -> TestDisk {
         TestDisk {
-            disk: FailDisk::new(MemDisk::new(bytes), fails),
+            disk: FailingDisk::new(MemoryDisk::new(bytes), fails),
             left: lies,
             room,
         }
@@ -88,7 +88,7 @@ impl Disk for TestDisk {
 /// The disk that rows speak to.
 #[derive(Drop)]
 pub enum AnyDisk {
-    Memory(MemDisk),
+    Memory(MemoryDisk),
     Test(TestDisk),
     Full(FileDisk<FullFile>),
     Real(FileDisk<StdFile>),
@@ -177,7 +177,7 @@ impl AnyDisk {
     /// A disk of a kind, as `memory lai`.
     pub fn new(alloc: Global, files: &Files, kind: &str, words: &str) -> Result<AnyDisk> {
         match kind {
-            "memory" => Ok(AnyDisk::Memory(MemDisk::new(files.bytes(alloc, words)?))),
+            "memory" => Ok(AnyDisk::Memory(MemoryDisk::new(files.bytes(alloc, words)?))),
             "within" => AnyDisk::within(alloc, files, words),
             "full" => AnyDisk::full(alloc, files, words),
             _ => AnyDisk::test(alloc, files, words),

@@ -70,7 +70,8 @@ fn version_of(verb: &str) -> Version {
     }
 }
 
-/// What the metadata of a file holds, as `of lai`, of one of version 1 as `of_version_1 lai`, and for `again` its bytes.
+/// What the metadata of a file holds, as `of lai`, of one of version 1 as `of_version_1 lai`, and for `again` its
+/// bytes.
 pub fn call(
     alloc: Global,
     answer: &mut Answer,

@@ -25,8 +25,8 @@ fn say_bytes(answer: &mut Answer, bytes: Option<&[u8]>) {
     }
 }
 
-/// What a reader gives: for `u8`, `u32` and `i32` a number, for `left` how many bytes are left, and for a number so many
-/// bytes.
+/// What a reader gives: for `u8`, `u32` and `i32` a number, for `left` how many bytes are left, and for a number so
+/// many bytes.
 fn take(answer: &mut Answer, reader: &mut Reader, word: &str) {
     match word {
         "u8" => say_number(answer, reader.read_u8().map(i64::from)),

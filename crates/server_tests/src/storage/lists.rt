@@ -79,8 +79,8 @@ fn cells_of(alloc: Global, runs: &RunList) -> Result<Vec<i64>> {
     Ok(cells)
 }
 
-/// The cells of a tile that is fetched as runs, in a list that held others, as `1 lai 0 0`: of the coverage as it is held for a
-/// job, and for 0 as it is where nothing is held.
+/// The cells of a tile that is fetched as runs, in a list that held others, as `1 lai 0 0`: of the coverage as it is
+/// held for a job, and for 0 as it is where nothing is held.
 pub fn list(alloc: Global, answer: &mut Answer, store: &mut Store, words: &str) -> Result<()> {
     let (asked, _) = read_asked(alloc, words)?;
     let (at, mut runs) = room_for(alloc, store, &asked)?.context("no tile")?;

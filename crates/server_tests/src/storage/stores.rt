@@ -1,11 +1,12 @@
 //! Stores of coverages.
 
 ghost use Rattle.std.specs.Prelude.{◌≡◌, ◌<◌, None, length, IfSome, IsSomeAnd, IsTrue};
-ghost use Rattle.arr_core.specs.Domains.{IsBoxOf, IsInside};
+ghost use Rattle.arr_core.specs.Domains.{IsInside};
 ghost use Rattle.arr_core.specs.Stores.{found};
+ghost use Rattle.arr_core.specs.Tiles.{tile_boxes};
 ghost use Rattle.raster_store.specs.Calls.{HasField};
-ghost use Rattle.raster_store.specs.Fetches.{HasTile, HasTileNumber};
-ghost use Rattle.raster_store.specs.Snapshots.{held_for, held_view};
+ghost use Rattle.raster_store.specs.Fetches.{HasTile};
+ghost use Rattle.raster_store.specs.Snapshots.{OnHeldFor, held_for, held_view};
 
 use crate::storage::blocks::Volume;
 use crate::storage::disks::TestDisk;
@@ -18,7 +19,7 @@ use anyhow::{Context, Result, bail};
 use arr_core::{Domain, Name, Signature};
 use page_pool::PagePool;
 use raster_store::{Fault, RasterStore, TileAt, WriteFault};
-use std::alloc::Global;
+use std::alloc::{AllocError, Global};
 use test_rows::{Answer, cell, cut, domain, number, point};
 
 pub type Store = RasterStore<PagePool<TestDisk>>;
@@ -43,36 +44,6 @@ fn has_field(store: &Store, target: &Target) -> bool
 {
     match store.signature(&target.name) {
         Some(signature) => target.field < signature.fields.len(),
-        None => false,
-    }
-}
-
-/// Whether a store has a coverage with a name, and the point is inside.
-fn has_point(store: &Store, name: &Name, point: &[i32]) -> bool
-    ensures { IsTrue result → IsSomeAnd (found name.now store.now.coverages) (λ c. IsInside c.domain point.now) }
-{
-    match store.signature(name) {
-        Some(signature) => signature.domain.contains(point),
-        None => false,
-    }
-}
-
-/// Whether a store has a coverage with a name, and the box is one of it.
-fn has_box(store: &Store, name: &Name, area: &Domain) -> bool
-    ensures { IsTrue result → IsSomeAnd (found name.now store.now.coverages) (λ c. IsBoxOf c.domain area.now) }
-{
-    match store.signature(name) {
-        Some(signature) => area.is_box_of(&signature.domain),
-        None => false,
-    }
-}
-
-/// Whether a store has a coverage with a name, and that has a tile of the number.
-fn has_tile(store: &Store, name: &Name, tile: u64) -> bool
-    ensures { IsTrue result → HasTileNumber name.now tile store.now.coverages }
-{
-    match store.signature(name) {
-        Some(signature) => tile < signature.domain.tiles(),
         None => false,
     }
 }
@@ -153,75 +124,46 @@ fn fill(
     Ok(())
 }
 
-/// The numbers of a box, as `x(0:99)`.
-fn read_box(
-    alloc: Global,
-    answer: &mut Answer,
-    store: &mut Store,
-    target: &Target,
-    words: &str,
-) -> Result<()>
-    requires { HasField target.now.name target.now.field store.old.coverages }
+/// Whether there is a tile, by its number, of a field of the coverage with a name that a number reads.
+pub fn is_readable(store: &Store, job: u64, name: &Name, field: usize, tile: u64) -> bool
+    ensures field { IsTrue result
+        → IsSomeAnd (held_view job store.now) (λ v. HasField name.now field v.coverages) }
+    ensures tile { IsTrue result
+        → IsSomeAnd (held_view job store.now)
+        (λ v. IsSomeAnd (found name.now v.coverages) (λ c. tile < length (tile_boxes c.domain))) }
+    ensures held { IsTrue result → held_for job store.now.snapshots ≡ None → job ≡ 0 }
 {
-    let area = domain(alloc, words)?;
-    if !has_box(store, &target.name, &area) {
-        bail!("no box");
+    if job != 0 && !store.holds(job) {
+        return false;
     }
-    match store.read_box(&target.name, target.field, &area) {
-        Ok(cells) => say_list(alloc, answer, &cells),
-        Err(fault) => answer.refusal(refused(fault)),
+    match store.signature_at(job, name) {
+        Some(signature) => field < signature.fields.len() && tile < signature.domain.tiles(),
+        None => false,
     }
-    Ok(())
 }
 
-/// The number at a point, as `99`.
-fn read_point(
-    alloc: Global,
-    answer: &mut Answer,
-    store: &mut Store,
-    target: &Target,
-    words: &str,
-) -> Result<()>
-    requires { HasField target.now.name target.now.field store.old.coverages }
-{
-    let point = point(alloc, words)?;
-    if !has_point(store, &target.name, &point) {
-        bail!("no point");
-    }
-    match store.read_cell(&target.name, target.field, &point) {
-        Ok(cell) => answer.integer(cell),
-        Err(fault) => answer.refusal(refused(fault)),
-    }
-    Ok(())
+/// A tile, by its number, of a field that a number reads: what is held for that job, or for 0 what is there.
+#[derive(Clone, Copy)]
+struct TileCall<'a> {
+    job: u64,
+    target: &'a Target,
+    tile: u64,
 }
 
-/// The numbers of a tile.
-fn read_tile(alloc: Global, answer: &mut Answer, store: &mut Store, target: &Target, tile: u64)
-    requires { HasField target.now.name target.now.field store.old.coverages }
+/// Where the tile is, if it is there.
+fn tile_at(store: &Store, call: TileCall<'_>) -> Option<TileAt>
+    ensures { IfSome result (λ at. OnHeldFor call.entry.job store.now (λ v. HasTile at v.coverages)) }
 {
-    if !has_tile(store, &target.name, tile) {
-        return answer.wrong("no tile");
+    let TileCall { job, target, tile } = call;
+    if !is_readable(store, job, &target.name, target.field, tile) {
+        return None;
     }
-    let mut cells = Vec::new(alloc);
-    let outcome = store.fetch_tile(&target.name, target.field, tile, &mut cells);
-    say_cells(alloc, answer, outcome, &cells);
-}
-
-/// Which tile it is, of which field of the coverage with a name, where there is one.
-fn tile_at(store: &Store, target: &Target, tile: u64) -> Option<TileAt>
-    ensures { IfSome result (λ at. HasTile at store.now.coverages) }
-{
-    match store.place(&target.name) {
-        Some(coverage) => {
-            if !has_field(store, target) || !has_tile(store, &target.name, tile) {
-                return None;
-            }
-            Some(TileAt {
-                coverage,
-                field: target.field,
-                tile,
-            })
-        }
+    match store.place_at(job, &target.name) {
+        Some(coverage) => Some(TileAt {
+            coverage,
+            field: target.field,
+            tile,
+        }),
         None => None,
     }
 }
@@ -231,26 +173,166 @@ fn read_into(
     alloc: Global,
     answer: &mut Answer,
     store: &mut Store,
-    target: &Target,
-    tile: u64,
+    call: TileCall<'_>,
     cells: &mut Vec<i64>,
 ) {
-    match tile_at(store, target, tile) {
+    match tile_at(store, call) {
         Some(at) => {
-            let outcome = store.fetch_tile_into(at, cells);
+            let outcome = store.fetch_at(call.job, at, cells);
             say_cells(alloc, answer, outcome, cells);
         }
         None => answer.wrong("no tile"),
     }
 }
 
+/// The numbers of a tile.
+fn read_tile(alloc: Global, answer: &mut Answer, store: &mut Store, call: TileCall<'_>) {
+    let mut cells = Vec::new(alloc);
+    read_into(alloc, answer, store, call, &mut cells);
+}
+
+/// A tile, by its number, of a field as it is.
+fn present<'a>(target: &'a Target, tile: u64) -> TileCall<'a> {
+    TileCall {
+        job: 0,
+        target,
+        tile,
+    }
+}
+
 /// The numbers of two tiles, which are read into one buffer one after the other, as `1 0`.
 fn read_tiles(alloc: Global, answer: &mut Answer, store: &mut Store, target: &Target, words: &str) {
     let (first, second) = cut(words);
+    let (first, second) = (number(first), number(second));
     let mut cells = Vec::new(alloc);
-    read_into(alloc, answer, store, target, number(first), &mut cells);
+    read_into(alloc, answer, store, present(target, first), &mut cells);
     answer.say(" | ");
-    read_into(alloc, answer, store, target, number(second), &mut cells);
+    read_into(alloc, answer, store, present(target, second), &mut cells);
+}
+
+/// The domain of the coverage with a name.
+fn domain_of(alloc: Global, store: &Store, name: &Name) -> Result<Domain> {
+    let signature = store.signature(name).context("no coverage")?;
+    Ok(signature.domain.copy(alloc)?)
+}
+
+/// Copies the numbers of a tile, whose box is `part`, to the points of a box that are in it.
+fn copy_tile(
+    alloc: Global,
+    part: &Domain,
+    tile: &[i64],
+    area: &Domain,
+    cells: &mut [i64],
+) -> Result<()> {
+    for place in 0..part.points() {
+        let point = part.unrank(alloc, place)?;
+        if area.contains(&point) {
+            let number = tile.get(place as usize).context("too few numbers")?;
+            let cell = cells
+                .get_mut(area.rank(&point) as usize)
+                .context("too few cells")?;
+            *cell = *number;
+        }
+    }
+    Ok(())
+}
+
+/// Reads a tile, whose box is `part`, and copies its numbers to the points of a box that are in it.
+fn read_part(
+    alloc: Global,
+    store: &mut Store,
+    call: TileCall<'_>,
+    part: &Domain,
+    area: &Domain,
+    cells: &mut [i64],
+) -> Result<Result<(), Fault>> {
+    let at = tile_at(store, call).context("no tile")?;
+    let mut numbers = Vec::new(alloc);
+    if let Err(fault) = store.fetch_at(call.job, at, &mut numbers) {
+        return Ok(Err(fault));
+    }
+    copy_tile(alloc, part, &numbers, area, cells)?;
+    Ok(Ok(()))
+}
+
+/// The numbers of a box of a field, in row-major order, from the tiles that it meets, each of which is read by itself.
+fn box_of(
+    alloc: Global,
+    store: &mut Store,
+    target: &Target,
+    area: &Domain,
+) -> Result<Result<Vec<i64>, Fault>> {
+    let domain = domain_of(alloc, store, &target.name)?;
+    if !area.is_box_of(&domain) {
+        bail!("no box");
+    }
+    let mut cells = vec![in alloc; 0i64; area.points() as usize]?;
+    for tile in domain.tiles_meeting(alloc, area)? {
+        if tile >= domain.tiles() {
+            bail!("no tile");
+        }
+        let part = domain.tile_box(alloc, tile)?;
+        if let Err(fault) = read_part(
+            alloc,
+            store,
+            present(target, tile),
+            &part,
+            area,
+            &mut cells,
+        )? {
+            return Ok(Err(fault));
+        }
+    }
+    Ok(Ok(cells))
+}
+
+/// The numbers of a box, as `x(0:99)`.
+fn read_box(
+    alloc: Global,
+    answer: &mut Answer,
+    store: &mut Store,
+    target: &Target,
+    words: &str,
+) -> Result<()> {
+    let area = domain(alloc, words)?;
+    match box_of(alloc, store, target, &area)? {
+        Ok(cells) => say_list(alloc, answer, &cells),
+        Err(fault) => answer.refusal(refused(fault)),
+    }
+    Ok(())
+}
+
+/// The number of the tile that a point of a domain is in, and the place of the point there.
+fn place_of(alloc: Global, domain: &Domain, point: &[i32]) -> Result<(u64, usize), AllocError>
+    requires { IsInside domain.now point.now }
+{
+    let tile = domain.tile_of(point);
+    let part = domain.tile_box(alloc, tile)?;
+    Ok((tile, part.rank(point) as usize))
+}
+
+/// The number at a point, as `99`: the one that its tile has there.
+fn read_point(
+    alloc: Global,
+    answer: &mut Answer,
+    store: &mut Store,
+    target: &Target,
+    words: &str,
+) -> Result<()> {
+    let point = point(alloc, words)?;
+    let domain = domain_of(alloc, store, &target.name)?;
+    if !domain.contains(&point) {
+        bail!("no point");
+    }
+    let (tile, place) = place_of(alloc, &domain, &point)?;
+    let call = present(target, tile);
+    let at = tile_at(store, call).context("no tile")?;
+    let mut cells = Vec::new(alloc);
+    match store.fetch_at(call.job, at, &mut cells) {
+        Ok(()) => answer.integer(*cells.get(place).context("too few cells")?),
+        Err(fault) => answer.refusal(refused(fault)),
+    }
+    Ok(())
 }
 
 /// The bytes of the index of a field.
@@ -279,7 +361,7 @@ fn on_field(
         "box" => return read_box(alloc, answer, store, target, words),
         "at" => return read_point(alloc, answer, store, target, words),
         "index" => return index_bytes(alloc, answer, store, target),
-        "tile" => read_tile(alloc, answer, store, target, number(words)),
+        "tile" => read_tile(alloc, answer, store, present(target, number(words))),
         "tiles" => read_tiles(alloc, answer, store, target, words),
         _ => answer.wrong("no such call"),
     }
@@ -380,37 +462,21 @@ fn release(answer: &mut Answer, store: &mut Store, job: u64) {
     answer.say("ok");
 }
 
-/// Whether there is a tile, by its number, of a field of the coverage with a name that a number reads.
-pub fn is_readable(store: &Store, job: u64, name: &Name, field: usize, tile: u64) -> bool
-    ensures field { IsTrue result
-        → IsSomeAnd (held_view job store.now) (λ v. HasField name.now field v.coverages) }
-    ensures tile { IsTrue result
-        → IsSomeAnd (held_view job store.now) (λ v. HasTileNumber name.now tile v.coverages) }
-    ensures held { IsTrue result → held_for job store.now.snapshots ≡ None → job ≡ 0 }
-{
-    if job != 0 && !store.holds(job) {
-        return false;
-    }
-    match store.signature_at(job, name) {
-        Some(signature) => field < signature.fields.len() && tile < signature.domain.tiles(),
-        None => false,
-    }
-}
-
 /// The numbers of a tile of a field, as `1 lai 0 0`: of the coverage as it is held for a job.
 fn read_held(alloc: Global, answer: &mut Answer, store: &mut Store, words: &str) -> Result<()> {
     let (job, rest) = cut(words);
     let (name, rest) = cut(rest);
     let (field, tile) = cut(rest);
-    let (job, tile) = (number(job), number(tile));
-    let name = Name::new(alloc, name)?;
-    let field = number(field) as usize;
-    if !is_readable(store, job, &name, field, tile) {
-        bail!("no tile");
-    }
-    let mut cells = Vec::new(alloc);
-    let outcome = store.fetch_tile_at(job, &name, field, tile, &mut cells);
-    say_cells(alloc, answer, outcome, &cells);
+    let target = Target {
+        name: Name::new(alloc, name)?,
+        field: number(field) as usize,
+    };
+    let call = TileCall {
+        job: number(job),
+        target: &target,
+        tile: number(tile),
+    };
+    read_tile(alloc, answer, store, call);
     Ok(())
 }
 

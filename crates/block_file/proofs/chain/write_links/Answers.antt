@@ -2,6 +2,7 @@
 use Rattle.std.proofs.Common.{◌<◌, ◌-◌, ◌*◌, length, get_or, arith, ◌∙◌}
 use Rattle.block_file.proofs.Frames.{moves_more}
 use Rattle.block_file.proofs.Chains.{part_byte, linked_more}
+use Rattle.block_file.proofs.Growth.{ends_more}
 use Rattle.block_file.proofs.Times.{times_at, one_times}
 use Rattle.block_file.proofs.chain.write_links.Goals as goal
 
@@ -12,6 +13,9 @@ write-requires g c =
 
 pub returns-in_err-write-clause-frame : goal.returns-in_err-write-clause-frame
 returns-in_err-write-clause-frame g c = moves_more _ _ _ _ _ (one_times c.args.ks.now c.loop-i.i (omega arith)) c.loop-i.invariant.moves c.in_err-write.ensures.frame
+
+pub returns-in_err-write-clause-ends : goal.returns-in_err-write-clause-ends
+returns-in_err-write-clause-ends g c = ends_more c.args.ks.now c.loop-i.i _ _ _ (omega arith) c.loop-i.invariant.ends c.in_err-write.ensures.torn
 
 pub loop-i-preserved : goal.loop-i-preserved
 loop-i-preserved g c =
@@ -28,5 +32,6 @@ loop-i-preserved g c =
             part = λ j lt. c.link_bytes-bytes.ensures.part j ∙ part_byte (4092 * c.loop-i.i) (c.min-to.result - 4092 * c.loop-i.i) 4092 j c.args.metadata.now (omega arith) (omega arith) lt;
           });
       moves = moves_more _ _ _ _ _ (one_times c.args.ks.now c.loop-i.i inside) kept.moves frame;
+      ends = ends_more c.args.ks.now c.loop-i.i _ _ _ inside kept.ends c.in_ok-write.ensures.torn;
       failures = c.in_ok-write.ensures.told.quiet (λ e. cc) ∙ kept.failures;
     }

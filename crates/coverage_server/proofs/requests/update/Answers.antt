@@ -1,14 +1,16 @@
 -- A box of a field that is there is written or refused as the machine has it.
-use Rattle.std.proofs.Common.{◌≡◌, List, refl, ap, ◌∙◌, subst}
+use Rattle.std.proofs.Common.{◌≡◌, List, refl, ap, ◌∙◌, subst, inl}
 use Rattle.std.proofs.lemmas.Result.{err_from_is_err_and}
 use Rattle.arr_core.specs.declared.domain.Axis.{Axis}
 use Rattle.arr_core.specs.Stores.{updated}
 use Rattle.kvp_front.specs.Contents.{content_view}
+use Rattle.coverage_server.specs.Growing.{GrowsToWrite}
 use Rattle.coverage_server.specs.Layouts.{LaysBox, layout_of}
 use Rattle.coverage_server.specs.Machine.{SpellDomain, axes_of}
 use Rattle.coverage_server.specs.Room.{numbers_of}
 use Rattle.coverage_server.specs.Writing.{MayWrite, WriteRefused}
 use Rattle.coverage_server.proofs.FreeLemmas.{unchanged, none_changed, same_kept}
+use Rattle.coverage_server.proofs.GrowthLemmas.{grows_update}
 use Rattle.coverage_server.proofs.ListLemmas.{position_within}
 use Rattle.coverage_server.proofs.MachineLemmas.{at_field}
 use Rattle.coverage_server.proofs.UpdateLemmas.{has_field, area_refused, lays_update, write_answered, write_done}
@@ -122,3 +124,39 @@ returns-in_err-write-clause-told g c =
 
 pub returns-clause-told : goal.returns-clause-told
 returns-clause-told g c = told_done _ _ _ (c.in_ok-write.ensures.told.quiet (λ f. absurd cc))
+
+pub returns-in_default-clause-grows : goal.returns-in_default-clause-grows
+returns-in_default-clause-grows g c = inl refl
+
+pub returns-in_default-place_of-clause-grows : goal.returns-in_default-place_of-clause-grows
+returns-in_default-place_of-clause-grows g c = inl refl
+
+pub returns-in_err-area-clause-grows : goal.returns-in_err-area-clause-grows
+returns-in_err-area-clause-grows g c = inl refl
+
+pub returns-in_err-reply-clause-grows : goal.returns-in_err-reply-clause-grows
+returns-in_err-reply-clause-grows g c = inl refl
+
+pub returns-in_err-write-clause-grows : goal.returns-in_err-write-clause-grows
+returns-in_err-write-clause-grows g c =
+    let u = c.args.update.now in
+    let v = c.args.coverages.now in
+    let w = c.write.new.self in
+    let x = c.in-Some.ensures in
+    let k = c.in-Some-place_of.field in
+    let place = at_field u.field c.as_str.result.now x.0 c.in-Some.signature.now k c.as_str.ensures.value x.2 c.in-Some-place_of.ensures in
+    let area : c.in_ok-area.area ≡ axes_of u.intervals.items = c.in_ok-area.ensures.ok.1 ∙ ap axes_of c.deref.ensures.value in
+    grows_update v w u.coverage u.field u.intervals.items (content_view u.content) x.0 x.1 k place
+    (subst (λ (a : List Axis). GrowsToWrite u.coverage k a (content_view u.content) v w) area c.in_err-write.ensures.grows)
+
+pub returns-clause-grows : goal.returns-clause-grows
+returns-clause-grows g c =
+    let u = c.args.update.now in
+    let v = c.args.coverages.now in
+    let w = c.write.new.self in
+    let x = c.in-Some.ensures in
+    let k = c.in-Some-place_of.field in
+    let place = at_field u.field c.as_str.result.now x.0 c.in-Some.signature.now k c.as_str.ensures.value x.2 c.in-Some-place_of.ensures in
+    let area : c.in_ok-area.area ≡ axes_of u.intervals.items = c.in_ok-area.ensures.ok.1 ∙ ap axes_of c.deref.ensures.value in
+    grows_update v w u.coverage u.field u.intervals.items (content_view u.content) x.0 x.1 k place
+    (subst (λ (a : List Axis). GrowsToWrite u.coverage k a (content_view u.content) v w) area c.in_ok-write.ensures.grows)

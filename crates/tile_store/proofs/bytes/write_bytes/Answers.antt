@@ -2,6 +2,7 @@
 use Rattle.std.proofs.Common.{arith, get_or, ◌∙◌}
 use Rattle.block_file.specs.State.{block}
 use Rattle.block_file.proofs.Frames.{moves_more}
+use Rattle.block_file.proofs.Growth.{ends_more}
 use Rattle.block_file.proofs.Times.{times_at, one_times}
 use Rattle.tile_store.proofs.Parts.{parts_joined, parts_more, parts_padded, whole_listed}
 use Rattle.tile_store.proofs.bytes.write_bytes.Goals as goal
@@ -15,11 +16,15 @@ write-requires g c =
 pub returns-in_err-write-clause-frame : goal.returns-in_err-write-clause-frame
 returns-in_err-write-clause-frame g c = moves_more _ _ _ _ _ (one_times c.args.numbers.now c.loop-place.place (omega arith)) c.loop-place.invariant.frame c.in_err-write.ensures.frame
 
+pub returns-in_err-write-clause-ends : goal.returns-in_err-write-clause-ends
+returns-in_err-write-clause-ends g c = ends_more c.args.numbers.now c.loop-place.place _ _ _ (omega arith) c.loop-place.invariant.ends c.in_err-write.ensures.torn
+
 pub loop-place-preserved : goal.loop-place-preserved
 loop-place-preserved g c = record {
   parts = λ honest. parts_more c.args.numbers.now c.loop-place.place c.args.bytes.now _ _ _ _ c.requires.fresh (omega arith) c.loop-place.invariant.frame c.in_ok-write.ensures.frame
       (c.loop-place.invariant.parts honest) c.block_of-block.ensures (c.in_ok-write.ensures.written (rw c.loop-place.invariant.frame.honest honest));
   frame = moves_more _ _ _ _ _ (one_times c.args.numbers.now c.loop-place.place (omega arith)) c.loop-place.invariant.frame c.in_ok-write.ensures.frame;
+  ends = ends_more c.args.numbers.now c.loop-place.place _ _ _ (omega arith) c.loop-place.invariant.ends c.in_ok-write.ensures.torn;
   quiet = c.in_ok-write.ensures.told.quiet (λ e. cc) ∙ c.loop-place.invariant.quiet;
 }
 

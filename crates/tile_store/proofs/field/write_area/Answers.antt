@@ -2,6 +2,7 @@
 use Rattle.std.proofs.Common.{rules, arith, refl}
 use Rattle.std.proofs.lemmas.Grind.{common_steps}
 use Rattle.tile_store.proofs.Exchanged.{can_exchange, moves_exchanged, sound_exchanged, patched_exchanged, room_lacks, room_left}
+use Rattle.tile_store.proofs.Growth.{grows_still}
 use Rattle.tile_store.proofs.Takes.{covers_taken, gave_back, once_given, refuses_as}
 use Rattle.tile_store.proofs.field.write_area.Goals as goal
 
@@ -33,12 +34,21 @@ pub returns-clause-sound : goal.returns-clause-sound
 returns-clause-sound g c = sound_exchanged c.requires.sound c.in_ok-ready.ensures.ready c.in_ok-exchange.ensures.done
 
 pub returns-clause-frame : goal.returns-clause-frame
-returns-clause-frame g c = moves_exchanged c.in_ok-ready.ensures.ready c.in_ok-exchange.ensures.done
-
-pub returns-clause-once : goal.returns-clause-once
-returns-clause-once g c = once_given _ _ _ _ _ c.in_ok-ready.ensures.ready.takes c.in_ok-exchange.ensures.done.given_back
+returns-clause-frame g c = record {
+  moves = moves_exchanged c.in_ok-ready.ensures.ready c.in_ok-exchange.ensures.done;
+  once = once_given _ _ _ _ _ c.in_ok-ready.ensures.ready.takes c.in_ok-exchange.ensures.done.given_back;
+}
 
 pub returns-clause-room : goal.returns-clause-room
 returns-clause-room g c =
     let fits = rw c.free.ensures at (c.if-not-has_room.ensures.fits (first_of (search rules, grind (arith, common_steps)))) in
     room_left c.args.rest c.in_ok-ready.ensures.ready c.in_ok-exchange.ensures.done fits
+
+pub returns-then-not-has_room-clause-grows : goal.returns-then-not-has_room-clause-grows
+returns-then-not-has_room-clause-grows g c = grows_still c.args.patch.now c.args.field.now (g.B.Blocks.state c.args.blocks.now) (g.B.Blocks.state c.prepare.new.blocks) (g.B.Blocks.state c.give_back.new.self) c.in_ok-ready.ensures.grows c.give_back.ensures.content
+
+pub returns-in_err-exchange-clause-grows : goal.returns-in_err-exchange-clause-grows
+returns-in_err-exchange-clause-grows g c = grows_still c.args.patch.now c.args.field.now (g.B.Blocks.state c.args.blocks.now) (g.B.Blocks.state c.prepare.new.blocks) (g.B.Blocks.state c.exchange.new.blocks) c.in_ok-ready.ensures.grows c.in_err-exchange.ensures.back.content
+
+pub returns-clause-grows : goal.returns-clause-grows
+returns-clause-grows g c = grows_still c.args.patch.now c.args.field.now (g.B.Blocks.state c.args.blocks.now) (g.B.Blocks.state c.prepare.new.blocks) (g.B.Blocks.state c.exchange.new.blocks) c.in_ok-ready.ensures.grows c.in_ok-exchange.ensures.done.given_back.content

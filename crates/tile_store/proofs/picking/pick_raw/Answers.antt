@@ -1,11 +1,10 @@
 -- Each cell was read at its rank.
-use Rattle.std.proofs.Common.{◌≡◌, ◌∙◌, length, rules, arith, SFits, w64, to_z-of_z, get_or, ap, sym, ℤ}
-use Rattle.block_file.specs.State.{BlocksState}
+use Rattle.std.proofs.Common.{◌≡◌, ◌∙◌, length, rules, arith, SFits, w64, to_z-of_z}
 use Rattle.file_bytes.specs.declared.form.Form.TheVariants.{Raw}
 use Rattle.tile_store.specs.Picking.{cells_as}
 use Rattle.run_tile.proofs.Picks.{picked-all}
 use Rattle.tile_store.proofs.Picks.{entry_moved, last_moved, picks_more}
-use Rattle.tile_store.proofs.Takes.{reads_then, refuses_as}
+use Rattle.tile_store.proofs.Takes.{reads_then}
 use Rattle.tile_store.proofs.picking.pick_raw.Goals as goal
 
 pub read_raw_cell-requires-clause-entry : goal.read_raw_cell-requires-clause-entry

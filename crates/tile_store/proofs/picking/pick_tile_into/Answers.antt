@@ -1,5 +1,5 @@
 -- A tile that is listed has the cells of its entry, and one that is not is 0 everywhere.
-use Rattle.std.proofs.Common.{◌≡◌, length, replicate, pos, rules, arith, sym, ℕ}
+use Rattle.std.proofs.Common.{◌≡◌, length, replicate, pos, rules, arith}
 use Rattle.std.proofs.lemmas.Grind.{common_steps}
 use Rattle.tile_store.proofs.Listed.{found_times}
 use Rattle.tile_store.proofs.Picks.{entry_in, ok_both, picked_none, picked_some}

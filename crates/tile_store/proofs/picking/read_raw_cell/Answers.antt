@@ -1,8 +1,6 @@
 -- The cell stands in the block that was read, at its place there.
-use Rattle.std.proofs.Common.{◌≡◌, ◌∙◌, ◌*◌, ◌/◌, rules, refl, ℕ, ap, SFits, w64, to_z-of_z, get_or, subst, arith}
+use Rattle.std.proofs.Common.{◌∙◌, ◌*◌, ◌/◌, rules, refl, SFits, w64, to_z-of_z, arith}
 use Rattle.std.proofs.lemmas.Grind.{common_steps}
-use Rattle.block_file.specs.State.{one, times}
-use Rattle.block_file.specs.Words.{OnlyReads}
 use Rattle.block_file.proofs.Times.{one_times}
 use Rattle.tile_store.proofs.Picks.{entry_used, lacks_past, raw_read, stands}
 use Rattle.tile_store.proofs.Takes.{reads_more, refuses_as}

@@ -1,5 +1,5 @@
 -- An entry has a block at least, so its bytes are those of as many blocks.
-use Rattle.std.proofs.Common.{ap, sym, ◌∙◌, arith, option_copied}
+use Rattle.std.proofs.Common.{ap, arith, option_copied}
 use Rattle.tile_index.proofs.Codes.{entry_length}
 use Rattle.tile_store.specs.Room.{entry_blocks, listed_bytes}
 use Rattle.tile_store.proofs.Sizes.{entry_bytes_are}

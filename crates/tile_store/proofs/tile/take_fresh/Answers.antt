@@ -1,5 +1,6 @@
 -- The blocks that come to those taken were free, and each was taken once.
 use Rattle.std.proofs.Common.{rules, arith, ◌≡◌, ◌++◌}
+use Rattle.block_file.proofs.Growth.{lowest_within}
 use Rattle.tile_store.proofs.Takes.{takes_fresh}
 use Rattle.tile_store.proofs.tile.take_fresh.Goals as goal
 
@@ -15,3 +16,6 @@ pub returns-clause-fresh : goal.returns-clause-fresh
 returns-clause-fresh g c = λ k some.
     let lowest = c.in_ok-fresh.ensures.lowest in
     (omega (arith, c.in_ok-fresh.ensures.taken.uses k, (lowest.free k some).unused, lowest.once k), omega (arith, some, lowest.once k))
+
+pub returns-clause-within : goal.returns-clause-within
+returns-clause-within g c = lowest_within _ _ _ c.in_ok-fresh.ensures.lowest

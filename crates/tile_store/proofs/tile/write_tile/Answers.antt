@@ -7,7 +7,7 @@ use Rattle.file_bytes.specs.Limits.{blocks_filled}
 use Rattle.tile_store.proofs.Cells.{written_some}
 use Rattle.tile_store.proofs.Parts.{data_written, padded_written}
 use Rattle.tile_store.proofs.Sizes.{made_entry}
-use Rattle.tile_store.proofs.Takes.{takes_written}
+use Rattle.tile_store.proofs.Takes.{takes_written, within_taken}
 use Rattle.tile_store.proofs.tile.write_tile.Goals as goal
 
 pub write_bytes-requires-clause-fresh : goal.write_bytes-requires-clause-fresh
@@ -15,11 +15,13 @@ write_bytes-requires-clause-fresh g c = rw c.deref.ensures.value c.in_ok-fresh.e
 
 pub returns-in_err-write_bytes-clause-takes : goal.returns-in_err-write_bytes-clause-takes
 returns-in_err-write_bytes-clause-takes g c =
-    takes_written c.args.taken.now.items c.in_ok-fresh.fresh.items _ _ _ _ c.in_ok-fresh.ensures.unused c.in_ok-fresh.ensures.takes (rw c.deref.ensures.value at c.in_err-write_bytes.ensures.frame)
+    takes_written c.args.taken.now.items c.in_ok-fresh.fresh.items _ _ _ _ c.in_ok-fresh.ensures.unused (within_taken _ _ _ _ _ c.in_ok-fresh.ensures.added c.in_ok-fresh.ensures.count c.in_ok-fresh.ensures.within) c.in_ok-fresh.ensures.takes
+    (rw c.deref.ensures.value at c.in_err-write_bytes.ensures.frame) (rw c.deref.ensures.value at c.in_err-write_bytes.ensures.ends)
 
 pub returns-clause-takes : goal.returns-clause-takes
 returns-clause-takes g c =
-    takes_written c.args.taken.now.items c.in_ok-fresh.fresh.items _ _ _ _ c.in_ok-fresh.ensures.unused c.in_ok-fresh.ensures.takes (rw c.deref.ensures.value at c.in_ok-write_bytes.ensures.frame)
+    takes_written c.args.taken.now.items c.in_ok-fresh.fresh.items _ _ _ _ c.in_ok-fresh.ensures.unused (within_taken _ _ _ _ _ c.in_ok-fresh.ensures.added c.in_ok-fresh.ensures.count c.in_ok-fresh.ensures.within) c.in_ok-fresh.ensures.takes
+    (rw c.deref.ensures.value at c.in_ok-write_bytes.ensures.frame) (rw c.deref.ensures.value at c.in_ok-write_bytes.ensures.ends)
 
 pub returns-clause-written : goal.returns-clause-written
 returns-clause-written g c =

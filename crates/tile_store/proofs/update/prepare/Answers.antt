@@ -1,6 +1,7 @@
 -- Where a write is refused it gives back what it took.
-use Rattle.std.proofs.Common.{rules, arith}
+use Rattle.std.proofs.Common.{rules, arith, refl}
 use Rattle.tile_store.proofs.Exchanged.{ready_of, sized_ready}
+use Rattle.tile_store.proofs.Growth.{grows_for, grows_unwritten}
 use Rattle.tile_store.proofs.Takes.{covers_taken, gave_back, refuses_as}
 use Rattle.tile_store.proofs.update.prepare.Goals as goal
 
@@ -17,6 +18,18 @@ pub returns-in-Err-clause-why : goal.returns-in-Err-clause-why
 returns-in-Err-clause-why g c rest =
     refuses_as (λ x is. search rules) c.in-Err.ensures.why (λ damaged. damaged) (λ lacking honest.
     (let less = rw c.deref-2.ensures.value at (lacking honest) in (c.in_ok-tiles.tiles.items, c.in_ok-tiles.ensures, omega (arith, less))))
+
+pub returns-in_err-tiles-clause-grows : goal.returns-in_err-tiles-clause-grows
+returns-in_err-tiles-clause-grows g c = grows_unwritten c.args.patch.now c.args.field.now (g.B.Blocks.state c.args.blocks.now) (g.B.Blocks.state c.args.blocks.now) refl
+
+pub returns-in_err-replaced-clause-grows : goal.returns-in_err-replaced-clause-grows
+returns-in_err-replaced-clause-grows g c = grows_unwritten c.args.patch.now c.args.field.now (g.B.Blocks.state c.args.blocks.now) (g.B.Blocks.state c.args.blocks.now) refl
+
+pub returns-in-Err-clause-grows : goal.returns-in-Err-clause-grows
+returns-in-Err-clause-grows g c = grows_for c.args.patch.now c.args.field.now _ c.in_ok-tiles.tiles.items _ _ (g.B.Blocks.state c.give_back.new.self) c.in_ok-tiles.ensures c.in-Err.ensures.takes (rw c.deref-2.ensures.value at c.in-Err.ensures.few) c.give_back.ensures.content
+
+pub returns-clause-grows : goal.returns-clause-grows
+returns-clause-grows g c = grows_for c.args.patch.now c.args.field.now _ c.in_ok-tiles.tiles.items _ _ (g.B.Blocks.state c.write_tiles.new.blocks) c.in_ok-tiles.ensures c.in_default.ensures.takes (rw c.deref-2.ensures.value at c.in_default.ensures.few) refl
 
 pub new_size-size-requires : goal.new_size-size-requires
 new_size-size-requires g c =

@@ -1,14 +1,15 @@
 -- Each tile so far stands in fresh blocks as it is after the write, and the field still has its numbers.
-use Rattle.std.proofs.Common.{rules, arith, subst, ◌≡◌, ℕ, List, take, length, get_or, ap, refl, ◌∙◌, ℤ, sum_by, take_all}
+use Rattle.std.proofs.Common.{rules, arith, subst, ℕ, get_or, refl, ◌∙◌, take_all}
 use Rattle.std.proofs.lemmas.List.Sums.{sum_by_more_le}
 use Rattle.disk_face.specs.Disk.{Rose}
 use Rattle.block_file.proofs.Times.{times_none}
-use Rattle.tile_store.specs.Patches.{patched, blocks_after}
+use Rattle.tile_store.specs.Patches.{blocks_after}
 use Rattle.tile_store.specs.Room.{tile_blocks}
-use Rattle.tile_store.proofs.Cells.{after_kept, meets_at}
+use Rattle.tile_store.proofs.Cells.{meets_at}
+use Rattle.tile_store.proofs.Growth.{tiles_done, tile_needs, takes_few}
 use Rattle.tile_store.proofs.Kept.{tile_kept}
 use Rattle.tile_store.specs.Listing.{given}
-use Rattle.tile_store.proofs.Patched.{more_written, keeps_taken, reads_taken, sizes_written}
+use Rattle.tile_store.proofs.Patched.{more_written, keeps_taken, reads_taken}
 use Rattle.tile_store.proofs.Takes.{takes_none, takes_read, reads_same, free_read, refuses_as}
 use Rattle.tile_store.proofs.update.write_tiles.Goals as goal
 
@@ -76,17 +77,43 @@ pub returns-in_err-entry-clause-why : goal.returns-in_err-entry-clause-why
 returns-in_err-entry-clause-why g c = refuses_as (λ x is. search rules) c.in_err-entry.ensures.why (λ none. absurd none) (λ lacking honest.
     let u = c.args.patch.now in
     let start = g.B.Blocks.state c.args.blocks.now in
-    let now = g.B.Blocks.state c.loop-tile.blocks in
     let inv = c.loop-tile.invariant in
     let tiles = c.args.tiles.now in
     let i = c.loop-tile.tile-index in
-    let blocks : ℕ → ℕ = blocks_after u start c.args.field.now in
-    let kept = keeps_taken u.domain.now c.args.field.now _ start now c.requires.sound honest inv.takes in
     let less = rw (free_read _ _ c.in_ok-cells.ensures.frame, c.deref.ensures.value) at lacking in
-    let cells = c.in_ok-cells.ensures.after.numbers (rw inv.takes.moves.honest honest) ∙ after_kept u.kind u.domain.now c.args.field.now start.content now.content u.area.now _ (get_or tiles i 0) kept in
-    let done : length c.loop-tile.fresh.blocks.items ≡ sum_by blocks (take i tiles) =
-    inv.written.size ∙ sizes_written (λ n. n) u.kind now.content (patched u start c.args.field.now) c.loop-tile.fresh.changes.items (inv.written.written honest) ∙ ap (sum_by blocks) inv.written.tiles_are in
-    omega (arith, sum_by_more_le blocks tiles i 0 c.loop-tile-test.true, inv.takes.free, done, less, ap (λ (l : List ℤ). tile_blocks u.kind l) cells))
+    omega (
+      arith,
+      sum_by_more_le (blocks_after u start c.args.field.now) tiles i 0 c.loop-tile-test.true,
+      inv.takes.free,
+      tiles_done u start _ c.args.field.now _ _ honest inv.written,
+      less,
+      tile_needs u start _ c.args.field.now _ (get_or tiles i 0) _ c.requires.sound honest inv.takes c.in_ok-cells.ensures.after,
+    ))
+
+pub returns-in_err-cells-clause-few : goal.returns-in_err-cells-clause-few
+returns-in_err-cells-clause-few g c =
+    takes_few c.args.patch.now _ _ c.args.field.now c.args.tiles.now _ c.loop-tile.tile-index 0 _ c.loop-tile-test.true c.loop-tile.invariant.written (λ honest. omega arith) (omega arith)
+
+pub returns-in_err-entry-clause-few : goal.returns-in_err-entry-clause-few
+returns-in_err-entry-clause-few g c =
+    let u = c.args.patch.now in
+    let inv = c.loop-tile.invariant in
+    let more : ℕ = tile_blocks u.kind c.in_ok-cells.cells.items in
+    takes_few u (g.B.Blocks.state c.args.blocks.now) _ c.args.field.now c.args.tiles.now _ c.loop-tile.tile-index more _ c.loop-tile-test.true inv.written
+    (λ honest. omega (arith, tile_needs u _ _ c.args.field.now _ _ c.in_ok-cells.cells.items c.requires.sound honest inv.takes c.in_ok-cells.ensures.after)) (rw c.deref.ensures.value at c.in_err-entry.ensures.few)
+
+pub returns-in_err-push-clause-few : goal.returns-in_err-push-clause-few
+returns-in_err-push-clause-few g c =
+    let u = c.args.patch.now in
+    let inv = c.loop-tile.invariant in
+    let more : ℕ = tile_blocks u.kind c.in_ok-cells.cells.items in
+    takes_few u (g.B.Blocks.state c.args.blocks.now) _ c.args.field.now c.args.tiles.now _ c.loop-tile.tile-index more _ c.loop-tile-test.true inv.written
+    (λ honest. omega (arith, tile_needs u _ _ c.args.field.now _ _ c.in_ok-cells.cells.items c.requires.sound honest inv.takes c.in_ok-cells.ensures.after)) (rw c.deref.ensures.value at c.in_ok-entry.ensures.few)
+
+pub returns-clause-few : goal.returns-clause-few
+returns-clause-few g c = λ honest.
+    let written = rw (take_all c.loop-tile.tile-index c.args.tiles.now c.loop-tile-test.false) at c.loop-tile.invariant.written in
+    omega (arith, tiles_done c.args.patch.now _ _ c.args.field.now c.args.tiles.now _ honest written)
 
 pub returns-in_err-entry-clause-told : goal.returns-in_err-entry-clause-told
 returns-in_err-entry-clause-told g c =

@@ -1,4 +1,5 @@
--- A tile of what the store below reads for a number is one of what the server reads for it, and a damaged one is not spelled.
+-- A tile of what the store below reads for a number is one of what the server reads for it, and a damaged one is not
+-- spelled.
 use Rattle.coverage_server.proofs.FaultLemmas.{on_ok}
 use Rattle.coverage_server.proofs.FreeLemmas.{fetches_ready}
 use Rattle.coverage_server.proofs.TileLemmas.{view_tile, view_cells, view_counted, view_damaged}

@@ -1,7 +1,9 @@
 -- A box filled on an honest disk has the cell everywhere; a refusal has its reason, and the header stays.
 use Rattle.std.proofs.Common.{rules}
 use Rattle.block_file.proofs.Headers.{keeps_header}
+use Rattle.kvp_front.specs.Contents as contents
 use Rattle.coverage_server.proofs.FreeLemmas.{stays_ready, written_ready}
+use Rattle.coverage_server.proofs.GrowthLemmas.{grows_shown}
 use Rattle.coverage_server.proofs.SpelledLemmas.{stays_spelled, writes_spelled}
 use Rattle.coverage_server.proofs.WriteLemmas.{fill_done, fill_refused}
 use Rattle.coverage_server.proofs.coverages.Coverages.fill.Goals as goal
@@ -53,4 +55,10 @@ pub invariant_of-self : goal.invariant_of-self
 invariant_of-self g c = elim c.match-fill_box.branch [
   | in-Ok w ↦ written_ready c.self.inside.catalogue _ _ _ _ _ c.self.inside.cells c.fill_box.new.self c.self.invariant c.bytes_len-bytes.ensures w.in-Ok.ensures.done.1 w.in-Ok.ensures.snapshots
   | in-Err w ↦ stays_ready c.self.inside.catalogue c.self.inside.cells c.fill_box.new.self c.self.invariant w.in-Err.ensures.same w.in-Err.ensures.snapshots
+]
+
+pub returns-clause-grows : goal.returns-clause-grows
+returns-clause-grows g c = elim c.match-fill_box.branch [
+  | in-Ok w ↦ rw (← c.self.view_is) (grows_shown _ _ _ (contents.fill c.args.cell) c.self.inside.catalogue c.self.inside.cells c.fill_box.new.self c.self.invariant c.len-catalogue.ensures.catalogue c.len-listed.ensures.held w.in-Ok.ensures.grows)
+  | in-Err w ↦ rw (← c.self.view_is) (grows_shown _ _ _ (contents.fill c.args.cell) c.self.inside.catalogue c.self.inside.cells c.fill_box.new.self c.self.invariant c.len-catalogue.ensures.catalogue c.len-listed.ensures.held w.in-Err.ensures.grows)
 ]

@@ -2,7 +2,9 @@
 use Rattle.std.proofs.Common.{rules}
 use Rattle.block_file.proofs.Headers.{keeps_header}
 use Rattle.raster_store.specs.Calls.{HasField}
+use Rattle.kvp_front.specs.Contents as contents
 use Rattle.coverage_server.proofs.FreeLemmas.{stays_ready, written_ready}
+use Rattle.coverage_server.proofs.GrowthLemmas.{grows_shown}
 use Rattle.coverage_server.proofs.SpelledLemmas.{stays_spelled, writes_spelled}
 use Rattle.coverage_server.proofs.WriteLemmas.{put_done, put_refused}
 use Rattle.coverage_server.proofs.coverages.Coverages.put.Goals as goal
@@ -55,4 +57,10 @@ pub invariant_of-self : goal.invariant_of-self
 invariant_of-self g c = elim c.match-write_box.branch [
   | in-Ok w ↦ written_ready c.self.inside.catalogue _ _ _ _ _ c.self.inside.cells c.write_box.new.self c.self.invariant c.bytes_len-bytes.ensures w.in-Ok.ensures.done.1 w.in-Ok.ensures.snapshots
   | in-Err w ↦ stays_ready c.self.inside.catalogue c.self.inside.cells c.write_box.new.self c.self.invariant w.in-Err.ensures.same w.in-Err.ensures.snapshots
+]
+
+pub returns-clause-grows : goal.returns-clause-grows
+returns-clause-grows g c = elim c.match-write_box.branch [
+  | in-Ok w ↦ rw (← c.self.view_is) (grows_shown _ _ _ (contents.values c.args.cells.now) c.self.inside.catalogue c.self.inside.cells c.write_box.new.self c.self.invariant c.len-catalogue.ensures.catalogue c.len-listed.ensures.held w.in-Ok.ensures.grows)
+  | in-Err w ↦ rw (← c.self.view_is) (grows_shown _ _ _ (contents.values c.args.cells.now) c.self.inside.catalogue c.self.inside.cells c.write_box.new.self c.self.invariant c.len-catalogue.ensures.catalogue c.len-listed.ensures.held w.in-Err.ensures.grows)
 ]

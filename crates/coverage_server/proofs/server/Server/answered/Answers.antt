@@ -430,3 +430,39 @@ returns-in-FetchJob-clause-told g c =
     (λ f. let told : AnswersJob (fetch_job c.in-FetchJob.job) v c.self.inside.desk v c.fetch_job.new.desk (Err DiskFault) = subst
     (AnswersJob (fetch_job c.in-FetchJob.job) v c.self.inside.desk v c.fetch_job.new.desk) f (c.fetch_job.ensures.answered v)
     in told.0) refl)
+
+pub returns-in-InsertCoverage-clause-grows : goal.returns-in-InsertCoverage-clause-grows
+returns-in-InsertCoverage-clause-grows g c = rw (← c.self.view_is, c.in-InsertCoverage.is) c.insert.ensures.keeps.content
+
+pub returns-in-UpdateCoverage-clause-grows : goal.returns-in-UpdateCoverage-clause-grows
+returns-in-UpdateCoverage-clause-grows g c = rw (← c.self.view_is, c.in-UpdateCoverage.is) c.update.ensures.grows
+
+pub returns-in-DeleteCoverage-clause-grows : goal.returns-in-DeleteCoverage-clause-grows
+returns-in-DeleteCoverage-clause-grows g c = rw (← c.self.view_is, c.in-DeleteCoverage.is) c.delete.ensures.keeps.content
+
+pub returns-in-ListCoverages-clause-grows : goal.returns-in-ListCoverages-clause-grows
+returns-in-ListCoverages-clause-grows g c = rw (← c.self.view_is, c.in-ListCoverages.is) refl
+
+pub returns-in-DescribeCoverage-clause-grows : goal.returns-in-DescribeCoverage-clause-grows
+returns-in-DescribeCoverage-clause-grows g c = rw (← c.self.view_is, c.in-DescribeCoverage.is) refl
+
+pub returns-in-FetchJob-clause-grows : goal.returns-in-FetchJob-clause-grows
+returns-in-FetchJob-clause-grows g c = rw (← c.self.view_is, c.in-FetchJob.is) refl
+
+pub returns-in-ExpandTemplate-clause-grows : goal.returns-in-ExpandTemplate-clause-grows
+returns-in-ExpandTemplate-clause-grows g c = rw (← c.self.view_is, c.in-ExpandTemplate.is) refl
+
+pub returns-in-SubmitQuery-clause-grows : goal.returns-in-SubmitQuery-clause-grows
+returns-in-SubmitQuery-clause-grows g c = rw (← c.self.view_is, c.in-SubmitQuery.is) (ap (λ (u : ServerView). u.content) c.submit_query.ensures.changes.others)
+
+pub returns-in-CancelJob-clause-grows : goal.returns-in-CancelJob-clause-grows
+returns-in-CancelJob-clause-grows g c = rw (← c.self.view_is, c.in-CancelJob.is) (ap (λ (u : ServerView). u.content) c.cancel_job.ensures.changes.others)
+
+pub returns-in-StepJob-clause-grows : goal.returns-in-StepJob-clause-grows
+returns-in-StepJob-clause-grows g c = rw (← c.self.view_is, c.in-StepJob.is) (ap (λ (u : ServerView). u.content) c.step_job.ensures.reads.others)
+
+pub returns-in-ProcessCoverages-clause-grows : goal.returns-in-ProcessCoverages-clause-grows
+returns-in-ProcessCoverages-clause-grows g c = rw (← c.self.view_is, c.in-ProcessCoverages.is) (ap (λ (u : ServerView). u.content) c.process.ensures.still)
+
+pub returns-in-ProcessTemplate-clause-grows : goal.returns-in-ProcessTemplate-clause-grows
+returns-in-ProcessTemplate-clause-grows g c = rw (← c.self.view_is, c.in-ProcessTemplate.is) (ap (λ (u : ServerView). u.content) c.process_template.ensures.still)

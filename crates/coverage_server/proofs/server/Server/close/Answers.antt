@@ -14,6 +14,7 @@ returns-in-Err-clause-refused g c =
       spelled = c.write_closed.ensures.spelled;
       disk_fault = λ e. c.write_closed.ensures.told.told (c.in-Err.is ∙ ap Err e);
       no_memory = λ e. (c.write_closed.ensures.header (c.in-Err.is ∙ ap Err e), c.write_closed.ensures.told.quiet (λ f. absurd cc));
+      grows = c.write_closed.ensures.grows;
       honest = c.write_closed.ensures.honest;
       no_fewer = never_fewer _ _ _ c.write_closed.ensures.told;
       overreads = c.write_closed.ensures.overreads;
@@ -27,6 +28,6 @@ returns-in-Ok-clause-closed g c =
     rw (← c.self.view_is)
     (closed_to c.self.inside.cells.coverages c.write_closed.new.coverages _ c.in-Ok.ensures.written
     c.write_closed.ensures.unchanged c.write_closed.ensures.sound c.write_closed.ensures.spelled
-    c.write_closed.ensures.honest (c.write_closed.ensures.told.quiet (λ e. absurd cc)) c.write_closed.ensures.overreads
+    c.write_closed.ensures.grows c.write_closed.ensures.honest (c.write_closed.ensures.told.quiet (λ e. absurd cc)) c.write_closed.ensures.overreads
     c.into_disk.ensures.closed c.into_disk.ensures.content c.into_disk.ensures.honest c.into_disk.ensures.failures
     c.into_disk.ensures.overreads)

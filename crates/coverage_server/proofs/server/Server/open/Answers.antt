@@ -36,6 +36,7 @@ returns-in-Ok-clause-opened g c honest =
           (shows.content ∙ c.in_ok-opened.ensures.shows.same_content) (c.write_open.ensures.unchanged.store kept)
           c.write_open.ensures.unchanged.indexes (c.write_open.ensures.spelled kept) name (rw (← store_now, ← indexes_now) whole));
       header = subst (λ (v : ServerView). IsOpenFile v.content) (sym c.new.ensures) (c.in-Ok.ensures.header kept);
+      torn = rw (← c.in_ok-opened.ensures.shows.same_content, ← shows.content, c.new.ensures) (c.write_open.ensures.torn kept);
     }
 
 pub returns-in_err-opened-clause-refused : goal.returns-in_err-opened-clause-refused

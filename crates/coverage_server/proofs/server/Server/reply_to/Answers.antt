@@ -2,14 +2,16 @@
 use Rattle.std.proofs.Common.{◌≡◌, ◌∙◌, ℕ, List, Result, Ok, refl, sym, ap, subst}
 use Rattle.arr_core.specs.declared.refusal.Refusal.{Refusal}
 use Rattle.arr_core.specs.Refusals.{number_of}
-use Rattle.http_front.specs.declared.conn.Next.{Next}
+use Rattle.http_front.specs.declared.connection.Next.{Next}
 use Rattle.http_front.specs.declared.reply.Reply.TheVariants.{Refused}
 use Rattle.http_front.specs.Stream.{Shows}
 use Rattle.kvp_front.specs.Requests.{Asks, asks, spelled}
 use Rattle.kvp_front.specs.declared.request.RequestError.{RequestError}
 use Rattle.coverage_server.specs.Fetching.{FetchesNext, FetchesRead}
+use Rattle.coverage_server.specs.Growing.{GrowsNext, GrowsRead}
 use Rattle.coverage_server.specs.Runs.{MessageStep}
 use Rattle.coverage_server.proofs.FetchingLemmas.{none_read}
+use Rattle.coverage_server.proofs.GrowthLemmas.{nothing_read}
 use Rattle.coverage_server.proofs.ReplyLemmas.{spelled_step, spelled_badly, refused_step}
 use Rattle.coverage_server.proofs.server.Server.reply_to.Goals as goal
 
@@ -65,3 +67,21 @@ pub returns-in-Refused-clause-fetches : goal.returns-in-Refused-clause-fetches
 returns-in-Refused-clause-fetches g c =
     let v = c.args.self.now in
     subst (λ (n : Next). FetchesNext n (Refused c.in-Refused.code) v v) (sym c.in-Refused.is) refl
+
+pub returns-in-Ok-clause-grows : goal.returns-in-Ok-clause-grows
+returns-in-Ok-clause-grows g c =
+    let v = c.args.self.now.coverages in
+    let w = c.answer-reply.new.self.coverages in
+    let read : spelled c.in-Message.pairs.items ≡ Ok (asks c.in-Ok.request) = ap spelled (sym c.as_slice.ensures.value) ∙ c.in-Ok.ensures in
+    subst (λ (n : Next). GrowsNext n v w) (sym c.in-Message.is)
+    (subst (λ (r : Result Asks RequestError). GrowsRead r v w) (sym read) c.answer-reply.ensures.grows)
+
+pub returns-in-Message-clause-grows : goal.returns-in-Message-clause-grows
+returns-in-Message-clause-grows g c =
+    let v = c.args.self.now.coverages in
+    subst (λ (n : Next). GrowsNext n v v) (sym c.in-Message.is) (nothing_read (spelled c.in-Message.pairs.items) v)
+
+pub returns-in-Refused-clause-grows : goal.returns-in-Refused-clause-grows
+returns-in-Refused-clause-grows g c =
+    let v = c.args.self.now.coverages in
+    subst (λ (n : Next). GrowsNext n v v) (sym c.in-Refused.is) refl

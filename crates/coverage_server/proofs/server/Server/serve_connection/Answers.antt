@@ -9,8 +9,8 @@ use Rattle.coverage_server.proofs.server.Server.serve_connection.Goals as goal
 
 pub serving-init : goal.serving-init
 serving-init g c = record {
-  going = c.new-conn.ensures.open;
-  few = omega (arith, c.new-conn.ensures.count);
+  going = c.new-connection.ensures.open;
+  few = omega (arith, c.new-connection.ensures.count);
   served = λ sure s r. (
     s,
     r,
@@ -18,12 +18,12 @@ serving-init g c = record {
       came = [];
       took = Consumes-nil _;
       items = [];
-      taken = sym c.new-conn.ensures.held;
+      taken = sym c.new-connection.ensures.held;
       replies = [];
       run = refl;
       sent = Appends-nil _;
       flushed = λ none. none;
-      counted = c.new-conn.ensures.count;
+      counted = c.new-connection.ensures.count;
     },
   );
   read = refl;
@@ -100,7 +100,7 @@ serving-preserved-else-is_over g c =
     let later = g.R.Source.view c.next.new.source in
     record {
       going = goes_on;
-      few = roomy c.serving.conn.count c.serving.conn.buffer f.0 _ later.remaining x.0 x.1 _ x.3 _ counted goes_on inv.few;
+      few = roomy c.serving.connection.count c.serving.connection.buffer f.0 _ later.remaining x.0 x.1 _ x.3 _ counted goes_on inv.few;
       served = λ sure s r.
           let y = inv.served sure s r in
           let z = c.reply_to-reply.ensures.step x.0.asked x.2 (subst IsTrue (sym inv.continues.honest) sure) y.0 y.1 in (
@@ -124,7 +124,7 @@ serving-preserved-else-is_over-2 g c =
     let later = g.R.Source.view c.next.new.source in
     record {
       going = goes_on;
-      few = roomy c.serving.conn.count c.serving.conn.buffer f.0 _ later.remaining x.0 x.1 _ x.3 _ counted goes_on inv.few;
+      few = roomy c.serving.connection.count c.serving.connection.buffer f.0 _ later.remaining x.0 x.1 _ x.3 _ counted goes_on inv.few;
       served = λ sure s r.
           let y = inv.served sure s r in
           let z = c.reply_to-reply.ensures.step x.0.asked x.2 (subst IsTrue (sym inv.continues.honest) sure) y.0 y.1 in (
@@ -148,7 +148,7 @@ serving-preserved g c =
     let later = g.R.Source.view c.next.new.source in
     record {
       going = goes_on;
-      few = roomy c.serving.conn.count c.serving.conn.buffer f.0 _ later.remaining x.0 x.1 _ x.3 _ counted goes_on inv.few;
+      few = roomy c.serving.connection.count c.serving.connection.buffer f.0 _ later.remaining x.0 x.1 _ x.3 _ counted goes_on inv.few;
       served = λ sure s r.
           let y = inv.served sure s r in
           let z = c.reply_to-reply.ensures.step x.0.asked x.2 (subst IsTrue (sym inv.continues.honest) sure) y.0 y.1 in (

@@ -6,14 +6,14 @@ use Rattle.coverage_server.proofs.server.Server.serve_connection.Given as goal
 
 abbrev pub invariant-serving : goal.invariant-serving
 invariant-serving g l = record {
-  going : l.conn.over ≡ false;
-  few : l.conn.count < 1000;
+  going : l.connection.over ≡ false;
+  few : l.connection.count < 1000;
   served : Refines (λ s t. Serving (g.R.Source.view l.initial.reader) (g.R.Source.view l.reader) (g.W.Sink.view l.initial.writer)
-      (g.W.Sink.view l.writer) s t l.conn.buffer l.conn.count) l.initial.self l.self;
+      (g.W.Sink.view l.writer) s t l.connection.buffer l.connection.count) l.initial.self l.self;
   read : (g.R.Source.view l.reader).failed ≡ (g.R.Source.view l.initial.reader).failed;
   written : (g.W.Sink.view l.writer).failed ≡ (g.W.Sink.view l.initial.writer).failed;
   continues : Continues l.initial.self.coverages l.self.coverages;
 }
 
 abbrev pub decreases-serving : goal.decreases-serving
-decreases-serving g l = 1000 - l.conn.count
+decreases-serving g l = 1000 - l.connection.count

@@ -23,3 +23,6 @@ returns-clause-done g c = grind (arith, stored_same)
 
 pub returns-clause-why : goal.returns-clause-why
 returns-clause-why g c = grind (arith, stored_same)
+
+pub returns-clause-grows : goal.returns-clause-grows
+returns-clause-grows g c = grind (arith, stored_same)

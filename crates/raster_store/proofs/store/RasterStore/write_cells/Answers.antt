@@ -1,4 +1,5 @@
 -- The coverage with the name is found, its field may have the cells, and they are written as numbers.
+use Rattle.std.proofs.Common.{arith}
 use Rattle.std.proofs.lemmas.Result.{err_from_is_err_and}
 use Rattle.raster_store.proofs.Cells.{refuses_cells, refuses_device}
 use Rattle.raster_store.proofs.Readings.{known_named}
@@ -40,3 +41,12 @@ pub returns-in_err-numbers-clause-snapshots : goal.returns-in_err-numbers-clause
 returns-in_err-numbers-clause-snapshots g c =
     let stay = seen _ _ _ _ c.self.inside.snapshots.items (passes_same _ _) c.self.invariant.snapshots in
     rw (← c.self.view_is) (record { told = stay.told; values = stay.values; intact = stay.intact })
+
+pub returns-in_err-numbers-clause-grows : goal.returns-in_err-numbers-clause-grows
+returns-in_err-numbers-clause-grows g c = rw (← c.self.view_is) (λ sure n needs. omega arith)
+
+pub returns-in_err-write_numbers-clause-grows : goal.returns-in_err-write_numbers-clause-grows
+returns-in_err-write_numbers-clause-grows g c = rw c.in_ok-numbers.ensures.stored.2 at c.in_err-write_numbers.ensures.grows
+
+pub returns-clause-grows : goal.returns-clause-grows
+returns-clause-grows g c = rw c.in_ok-numbers.ensures.stored.2 at c.in_ok-write_numbers.ensures.grows

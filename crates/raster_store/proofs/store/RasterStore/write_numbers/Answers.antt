@@ -46,7 +46,7 @@ invariant_of-self g c =
     let w = wrote g.B.Blocks.state c.self.inside.blocks c.write_area-written.new.blocks _ c.args.name.now c.place_held-place.result c.args.field c.index_mut-coverage.result.now _ c.index_mut-index.result.now c.write_area-written.new.field _
     (snapshots_of (g.B.Blocks.state c.self.inside.blocks).content c.self.inside.snapshots.items) (snapshots_of (g.B.Blocks.state c.write_area-written.new.blocks).content c.self.inside.snapshots.items)
     c.args.catalogue c.rest_size-rest.result c.self.inside.fetched c.write_area-written.result c.self.invariant.is_held (rw c.deref.ensures.value at c.place_held-place.ensures.named) c.index_mut-coverage.ensures.value (rw (← c.self.view_is) at c.requires.patch)
-    c.index_mut-index.ensures.value refl c.kind_of.ensures refl refl c.index-listed.ensures.index (rw c.deref-2.ensures.value at c.rest_size-rest.ensures) (omega (arith, c.free-free.ensures)) e.done e.sound e.frame e.once e.room e.same e.kept e.why in
+    c.index_mut-index.ensures.value refl c.kind_of.ensures refl refl c.index-listed.ensures.index (rw c.deref-2.ensures.value at c.rest_size-rest.ensures) (omega (arith, c.free-free.ensures)) e.done e.sound e.frame e.room e.same e.kept e.why e.grows in
     let p = passes_wrote g.B.Blocks.state c.write_area-written.result _ _ _ _ _ _ _ w.done w.same in
     record { is_held = w.is_held; snapshots = passed _ _ _ _ c.self.inside.snapshots.items p c.self.invariant.snapshots; decoded = decoded_written _ _ _ _ _ c.self.inside.coverages.items c.self.inside.snapshots.items c.place_held-place.result _ c.renewed-renewed.ensures p.honest w.kept (seen _ _ _ _ c.self.inside.snapshots.items p c.self.invariant.snapshots).keeps c.self.invariant.decoded }
 
@@ -58,7 +58,7 @@ returns g c =
     let w = wrote g.B.Blocks.state c.self.inside.blocks c.write_area-written.new.blocks _ c.args.name.now c.place_held-place.result c.args.field h h' c.index_mut-index.result.now c.write_area-written.new.field _
     (snapshots_of (g.B.Blocks.state c.self.inside.blocks).content c.self.inside.snapshots.items) (snapshots_of (g.B.Blocks.state c.write_area-written.new.blocks).content c.self.inside.snapshots.items)
     c.args.catalogue c.rest_size-rest.result c.self.inside.fetched c.write_area-written.result c.self.invariant.is_held (rw c.deref.ensures.value at c.place_held-place.ensures.named) c.index_mut-coverage.ensures.value (rw (← c.self.view_is) at c.requires.patch)
-    c.index_mut-index.ensures.value refl c.kind_of.ensures refl refl c.index-listed.ensures.index (rw c.deref-2.ensures.value at c.rest_size-rest.ensures) (omega (arith, c.free-free.ensures)) e.done e.sound e.frame e.once e.room e.same e.kept e.why in
+    c.index_mut-index.ensures.value refl c.kind_of.ensures refl refl c.index-listed.ensures.index (rw c.deref-2.ensures.value at c.rest_size-rest.ensures) (omega (arith, c.free-free.ensures)) e.done e.sound e.frame e.room e.same e.kept e.why e.grows in
     let p = passes_wrote g.B.Blocks.state c.write_area-written.result _ _ _ _ _ _ _ w.done w.same in
     let stay = seen _ _ _ _ c.self.inside.snapshots.items p c.self.invariant.snapshots in
-    rw (← c.self.view_is) (record { done = w.done; same = w.same; why = w.why; intact = w.intact; snapshots = record { told = stay.told; values = stay.values; intact = stay.intact }; fetched = refl; told = e.told })
+    rw (← c.self.view_is) (record { done = w.done; same = w.same; why = w.why; intact = w.intact; snapshots = record { told = stay.told; values = stay.values; intact = stay.intact }; grows = w.grows; fetched = refl; told = e.told })

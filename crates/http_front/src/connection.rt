@@ -26,7 +26,7 @@ pub enum Next {
 
 /// A connection. Making one takes no memory.
 #[derive(Drop)]
-pub struct Conn {
+pub struct Connection {
     buffer: Buffer,
     /// Nothing comes after the last reply.
     over: bool,
@@ -36,25 +36,25 @@ pub struct Conn {
     count: usize,
 }
 
-impl Model for Conn {
+impl Model for Connection {
     ghost use Rattle.std.specs.Prelude.{◌≡◌, ◌<◌, false};
     ghost use Rattle.http_front.specs.Limits.{max_messages};
-    ghost use Rattle.http_front.specs.Connection.{ConnView};
+    ghost use Rattle.http_front.specs.Connection.{ConnectionView};
 
-    ghost Value = { ConnView };
+    ghost Value = { ConnectionView };
 
     ghost view = { λ c. record { buffer = c.buffer; over = c.over; bare = c.bare; count = c.count } };
 
     ghost invariant = { λ c. c.over ≡ false → c.count < max_messages };
 }
 
-impl Conn {
-    pub fn new() -> Conn
+impl Connection {
+    pub fn new() -> Connection
         ensures held { result.buffer ≡ [] }
         ensures open { result.over ≡ false }
         ensures count { result.count ≡ 0 }
     {
-        Conn {
+        Connection {
             buffer: Buffer::new(),
             over: false,
             bare: false,
@@ -69,12 +69,12 @@ impl Conn {
         self.over
     }
 
-    /// Takes the next message, reading as much as it needs: at most 16,384 bytes of head and 1,048,576 of body. Once the
-    /// connection is over it is `Ended`, and nothing is read.
+    /// Takes the next message, reading as much as it needs: at most 16,384 bytes of head and 1,048,576 of body. Once
+    /// the connection is over it is `Ended`, and nothing is read.
     ///
-    /// A message is its pairs, still encoded. `Refused` is the number of BadHead for what is no head within the limits, a bad
-    /// length or a body cut short, of BodyTooLong, of NoSuchPath for another path than `/ows`, of NotServed, and of NoMemory
-    /// where none was found for the pairs. `ReadFault` is answered only where a read failed in this call.
+    /// A message is its pairs, still encoded. `Refused` is the number of BadHead for what is no head within the limits,
+    /// a bad length or a body cut short, of BodyTooLong, of NoSuchPath for another path than `/ows`, of NotServed, and
+    /// of NoMemory where none was found for the pairs. `ReadFault` is answered only where a read failed in this call.
     pub fn next<S: Source>(&mut self, alloc: Global, source: &mut S) -> Next
         ensures found { self.old.over ≡ false → TakesNext (S.view source.old) (S.view source.new) self.old self.new result }
         ensures ended { self.old.over ≡ true → (result ≡ Next.Ended) × (source.new ≡ source.old) × (self.new ≡ self.old) }
@@ -113,8 +113,8 @@ impl Conn {
         }
     }
 
-    /// Writes the reply to the message that came last, without its body where that was a HEAD, and flushes it. A small reply
-    /// goes out in one write.
+    /// Writes the reply to the message that came last, without its body where that was a HEAD, and flushes it. A small
+    /// reply goes out in one write.
     pub fn send<K: Sink>(&self, sink: &mut K, reply: &Reply) -> Result<(), WriteFault>
         ensures sent { Sends (K.view sink.old) (K.view sink.new) result (reply_bytes self.now.over self.now.bare reply.now) }
         ensures flushed { IfOk result (λ _. IsFlushed (K.view sink.new).waiting) }

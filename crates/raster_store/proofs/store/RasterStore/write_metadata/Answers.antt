@@ -5,7 +5,7 @@ use Rattle.raster_store.proofs.Snapshots.{passed, passes_none, seen}
 use Rattle.raster_store.proofs.Writes.{keeps_all, same_store, held_kept}
 use Rattle.raster_store.proofs.Tiles.{tiles_kept}
 use Rattle.raster_store.proofs.Versions.{decoded_moved}
-use Rattle.raster_store.proofs.store.RasterStore.write_meta.Goals as goal
+use Rattle.raster_store.proofs.store.RasterStore.write_metadata.Goals as goal
 
 pub returns-clause-frame : goal.returns-clause-frame
 returns-clause-frame g c =

@@ -5,7 +5,7 @@ use Rattle.httparse.specs.Grammar.{HasNoRequest}
 use Rattle.arr_core.specs.declared.refusal.Refusal.TheVariants.{BadHead}
 use Rattle.http_front.specs.Stream.{bad_head, NeverHasHead, Finds}
 use Rattle.http_front.proofs.StreamLemmas.{no_head_yet, not_bare}
-use Rattle.http_front.proofs.conn.Conn.next.Goals as goal
+use Rattle.http_front.proofs.connection.Connection.next.Goals as goal
 
 pub returns-in-Whole-clause-found : goal.returns-in-Whole-clause-found
 returns-in-Whole-clause-found g c =
