@@ -82,8 +82,10 @@ pub(crate) fn read_chain<D: Disk>(
     })
 }
 
-/// Writes metadata, of at least one byte, as a chain into the lowest blocks that are free, which stay so, and gives the
-/// first of them. As many blocks have to be free as it fills. Refused for memory, or for a fault of the disk.
+/// Writes metadata, of at least one byte, as a chain into free blocks, which stay so, and gives the first of them. As
+/// many blocks have to be free as it fills. The file grows no further than one that has the header, the blocks that are
+/// in use and as many more as the chain has, with no other free block before the last of them. Refused for memory, or
+/// for a fault of the disk.
 pub fn write_chain<B: Blocks>(file: &mut B, metadata: &[u8]) -> Result<u32, CloseFault>
     requires some { 0 < length metadata.now }
     requires room { chain_blocks (length metadata.now) ≤ free_of (B.state file.old) }

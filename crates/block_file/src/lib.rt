@@ -54,13 +54,14 @@ pub trait Blocks {
         ensures told { Tells (IsErr result) (state self.old).failures (state self.new).failures };
 
     /// Writes block k, which is in use once, and nothing else but zeros in a gap before it. A write that fails leaves
-    /// any bytes in both, and each other whole block, in use or not, as it was. Refused only where the disk has counted
-    /// a failure.
+    /// any bytes in both, and each other whole block, in use or not, as it was. It does not sync: what lasts changes
+    /// there alone. Refused only where the disk has counted a failure.
     fn write(&mut self, k: u32, bytes: &[u8; BLOCK_BYTES]) -> Result<(), DiskFault>
         requires { (state self.old).uses k ≡ 1 }
         ensures written { OnOk result (IsTrue (state self.old).honest → block (state self.new) k ≡ bytes.now) }
         ensures others { OthersKept k (block (state self.old)) (block (state self.new)) }
         ensures torn { Torn (block_bytes * k) block_bytes (state self.old).content (state self.new).content }
+        ensures torn_synced { Torn (block_bytes * k) block_bytes (state self.old).synced (state self.new).synced }
         ensures frame { Moves (one k) (one k) (state self.old) (state self.new) }
         ensures told { Tells (IsErr result) (state self.old).failures (state self.new).failures };
 

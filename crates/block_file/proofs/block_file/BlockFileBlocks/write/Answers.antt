@@ -41,11 +41,17 @@ returns-in_err-write_at-clause-written g c = search rules
 pub returns-in_err-write_at-clause-torn : goal.returns-in_err-write_at-clause-torn
 returns-in_err-write_at-clause-torn g c = search rules
 
+pub returns-in_err-write_at-clause-torn_synced : goal.returns-in_err-write_at-clause-torn_synced
+returns-in_err-write_at-clause-torn_synced g c = search rules
+
 pub returns-in_err-write_at-clause-told : goal.returns-in_err-write_at-clause-told
 returns-in_err-write_at-clause-told g c = search rules
 
 pub returns-clause-torn : goal.returns-clause-torn
 returns-clause-torn g c = search rules
+
+pub returns-clause-torn_synced : goal.returns-clause-torn_synced
+returns-clause-torn_synced g c = search rules
 
 pub returns-clause-told : goal.returns-clause-told
 returns-clause-told g c = search rules
