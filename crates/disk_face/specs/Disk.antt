@@ -19,19 +19,24 @@ pub record Lying : Type 0 where
   pub left : ℕ
 
 -- A disk over a file as callers see it: its bytes, those that last, whether the file does what it tells, how many of
--- the disk's calls have failed, whether the system refuses none of them, and whether the length of its file is not
--- known.
+-- the disk's calls have failed, whether the system refuses none of them, whether it never refuses to tell the file's
+-- length, and whether that length is not known.
 pub record Filed : Type 0 where
   pub content : List ℕ
   pub synced : List ℕ
   pub honest : Bool
   pub failures : ℕ
   pub works : Bool
+  pub tells_length : Bool
   pub is_broken : Bool
 
 -- its file works, and its length is known
 abbrev pub Works : Filed → Type 0
 Works disk = IsTrue disk.works × (disk.is_broken ≡ false)
+
+-- where the system tells the file's length it does so still, and the disk is broken only where it was
+abbrev pub StillTellsLength : Filed → Filed → Type 0
+StillTellsLength old new = IsTrue old.tells_length → IsTrue new.tells_length × (new.is_broken ≡ old.is_broken)
 
 -- a file that worked does so still, and the call was done
 abbrev pub StillWorks : Bool → Bool → Type 0 → Type 0

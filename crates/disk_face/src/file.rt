@@ -1,6 +1,6 @@
 //! A disk over a file: each call reads or writes all of its bytes, and the length is right after each.
 ghost use Rattle.std.specs.Prelude.{◌≡◌, ◌≤◌, ◌<◌, ◌+◌, ◌-◌, ◌^◌, min, length, true, false, IfOk, IsOk, IsOkAnd, IsErr, OnOk, OnErr, IsTrue};
-ghost use Rattle.disk_face.specs.Disk.{IfInside, Holds, Torn, Reads, Writes, Unwritten, Tells, Works, StillWorks};
+ghost use Rattle.disk_face.specs.Disk.{IfInside, Holds, Torn, Reads, Writes, Unwritten, Tells, Works, StillWorks, StillTellsLength};
 
 use crate::{Disk, DiskFault, RawFault, RawFile, StdFile};
 use std::fs::{File, OpenOptions};
@@ -9,6 +9,7 @@ use std::rt::Files;
 
 /// A file that is read and written by place. After a write that failed the file is asked for its length anew, since
 /// some of the bytes may stand in it; where that is refused too, the disk is broken, and refuses every later call.
+/// Nothing else breaks it.
 #[derive(Drop)]
 pub struct FileDisk<F: RawFile> {
     file: F,
@@ -29,6 +30,7 @@ impl<F: RawFile> Model for FileDisk<F> {
       honest = F.honest d.file;
       failures = d.failures;
       works = F.works d.file;
+      tells_length = F.tells_length d.file;
       is_broken = d.is_broken;
     } };
 
@@ -61,6 +63,7 @@ impl<F: RawFile> FileDisk<F> {
         ensures failures { IfOk result (λ disk. disk.failures ≡ 0) }
         ensures known { IfOk result (λ disk. disk.is_broken ≡ false) }
         ensures works { IsTrue (F.works file) → IsOkAnd result (λ disk. Works disk) }
+        ensures tells_length { IsTrue (F.tells_length file) → IsOkAnd result (λ disk. IsTrue disk.tells_length) }
     {
         let mut file = file;
         match file.length() {
@@ -82,6 +85,7 @@ impl<F: RawFile> FileDisk<F> {
         ensures synced { IfOk result (λ file. F.synced file ≡ self.synced) }
         ensures honest { IfOk result (λ file. F.honest file ≡ self.honest) }
         ensures works { IfOk result (λ file. F.works file ≡ self.works) }
+        ensures tells_length { IfOk result (λ file. F.tells_length file ≡ self.tells_length) }
         ensures refused { OnErr result (self.is_broken ≡ true) }
     {
         let FileDisk {
@@ -103,6 +107,7 @@ impl<F: RawFile> FileDisk<F> {
         ensures honest { self.new.honest ≡ self.old.honest }
         ensures broken { self.new.is_broken ≡ self.old.is_broken }
         ensures works { self.new.works ≡ self.old.works }
+        ensures tells_length { self.new.tells_length ≡ self.old.tells_length }
         ensures counted { self.new.failures ≡ min (self.old.failures + 1) (2 ^ 64 - 1) }
         ensures no_fewer { self.old.failures ≤ self.new.failures }
     {
@@ -116,6 +121,7 @@ fn read_all<F: RawFile>(file: &mut F, at: u64, buf: &mut [u8]) -> Result<(), Raw
     requires { at + length buf.old < 2 ^ 64 }
     ensures read { OnOk result (Reads (F.honest file.old) at buf.new (F.content file.old)) }
     ensures works { IsTrue (F.works file.old) → IsTrue (F.works file.new) }
+    ensures tells_length { IsTrue (F.tells_length file.old) → IsTrue (F.tells_length file.new) }
     ensures done { IsTrue (F.works file.old) → IfInside (F.honest file.old) at buf.old (F.content file.old) (IsOk result) }
     ensures same { Unwritten F.content F.synced F.honest file.old file.new }
 {
@@ -138,6 +144,7 @@ fn write_all<F: RawFile>(file: &mut F, at: u64, bytes: &[u8]) -> Result<(), RawF
     ensures torn { Torn at (length bytes.now) (F.content file.old) (F.content file.new) }
     ensures torn_synced { Torn at (length bytes.now) (F.synced file.old) (F.synced file.new) }
     ensures works { StillWorks (F.works file.old) (F.works file.new) (IsOk result) }
+    ensures tells_length { IsTrue (F.tells_length file.old) → IsTrue (F.tells_length file.new) }
     ensures honest { F.honest file.new ≡ F.honest file.old }
 {
     let mut taken = 0;
@@ -167,6 +174,8 @@ impl<F: RawFile> Disk for FileDisk<F> {
         ensures read { OnOk result (IsTrue self.old.honest → Holds self.old.content at buf.new) }
         ensures done { Works self.old → IfInside self.old.honest at buf.old self.old.content (IsOk result) }
         ensures works { Works self.old → Works self.new }
+        ensures tells_length { IsTrue self.old.tells_length → IsTrue self.new.tells_length }
+        ensures broken { self.new.is_broken ≡ self.old.is_broken }
         ensures content { self.new.content ≡ self.old.content }
         ensures synced { self.new.synced ≡ self.old.synced }
         ensures honest { self.new.honest ≡ self.old.honest }
@@ -182,13 +191,15 @@ impl<F: RawFile> Disk for FileDisk<F> {
         Ok(())
     }
 
-    /// Fails only past 64 bits, or where the disk is broken or the system refused a call or took nothing.
+    /// Fails only past 64 bits, or where the disk is broken or the system refused a call or took nothing. It breaks the
+    /// disk only where the system also refuses to tell the file's length.
     fn write_at(&mut self, at: u64, bytes: &[u8]) -> Result<(), DiskFault>
         requires { 0 < length bytes.now }
         ensures written { OnOk result (Writes self.old.honest at bytes.now self.old.content self.new.content) }
         ensures done { Works self.old → at + length bytes.now < 2 ^ 64 → IsOk result }
         ensures inside { Works self.old → IfInside self.old.honest at bytes.now self.old.content (IsOk result) }
         ensures works { Works self.old → Works self.new }
+        ensures broken { StillTellsLength self.old self.new }
         ensures torn { Torn at (length bytes.now) self.old.content self.new.content }
         ensures torn_synced { Torn at (length bytes.now) self.old.synced self.new.synced }
         ensures honest { self.new.honest ≡ self.old.honest }
@@ -221,6 +232,8 @@ impl<F: RawFile> Disk for FileDisk<F> {
         ensures done { OnOk result (self.new.synced ≡ self.old.content) }
         ensures refused { OnErr result (self.new.synced ≡ self.old.synced) }
         ensures works { Works self.old → IsOk result × Works self.new }
+        ensures tells_length { IsTrue self.old.tells_length → IsTrue self.new.tells_length }
+        ensures broken { self.new.is_broken ≡ self.old.is_broken }
         ensures honest { self.new.honest ≡ self.old.honest }
         ensures told { Tells (IsErr result) self.old.failures self.new.failures }
     {

@@ -7,7 +7,7 @@ use crate::memory::overwrite;
 use crate::{RawFault, RawFile};
 
 /// A file in memory that has no more than `room` bytes. A write across that bound takes what there is room for, and
-/// one from it on is refused. It is honest, and what it holds needs no sync.
+/// one from it on is refused. It is honest, always tells its length, and what it holds needs no sync.
 #[derive(Drop)]
 pub struct FullFile {
     pub bytes: Vec<u8>,
@@ -22,6 +22,8 @@ impl RawFile for FullFile {
     ghost honest = { λ _. true };
 
     ghost works = { λ _. false };
+
+    ghost tells_length = { λ _. true };
 
     /// Gives all bytes that there are and that there is room for.
     fn read_some(&mut self, at: u64, buf: &mut [u8]) -> Result<usize, RawFault>

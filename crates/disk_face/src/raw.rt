@@ -30,6 +30,9 @@ pub trait RawFile {
     /// From now on the system refuses no call, and each write takes a byte at least.
     ghost works: { Self → Bool };
 
+    /// From now on the system does not refuse to tell the length, whatever else it refuses.
+    ghost tells_length: { Self → Bool };
+
     /// Reads once from a place on. Gives how many bytes came: none only at the end, and at times fewer than there is
     /// room for.
     fn read_some(&mut self, at: u64, buf: &mut [u8]) -> Result<usize, RawFault>
@@ -37,6 +40,7 @@ pub trait RawFile {
         ensures read { IsTrue (honest self.old) → IfOk result (λ n. HoldsPart (content self.old) at n buf.new) }
         ensures end { IsTrue (honest self.old) → IfOk result (λ n. ReadsSome (content self.old) at buf.old n) }
         ensures works { StillWorks (works self.old) (works self.new) (IsOk result) }
+        ensures tells_length { IsTrue (tells_length self.old) → IsTrue (tells_length self.new) }
         ensures same { Unwritten content synced honest self.old self.new };
 
     /// Writes once from a place on. Gives how many of the bytes were taken; where it is refused, any bytes may stand
@@ -48,12 +52,14 @@ pub trait RawFile {
         ensures torn_synced { Torn at (length bytes.now) (synced self.old) (synced self.new) }
         ensures works { StillWorks (works self.old) (works self.new)
             (IsOkAnd result (λ n. 0 < length bytes.now → 0 < n)) }
+        ensures tells_length { IsTrue (tells_length self.old) → IsTrue (tells_length self.new) }
         ensures honest { honest self.new ≡ honest self.old };
 
     /// How many bytes the file has.
     fn length(&mut self) -> Result<u64, RawFault>
         ensures told { IsTrue (honest self.old) → IfOk result (λ n. n ≡ length (content self.old)) }
         ensures works { StillWorks (works self.old) (works self.new) (IsOk result) }
+        ensures tells_length { IsTrue (tells_length self.old) → IsTrue (tells_length self.new) × IsOk result }
         ensures same { Unwritten content synced honest self.old self.new };
 
     /// Makes all that was written last.
@@ -62,12 +68,13 @@ pub trait RawFile {
         ensures done { OnOk result (synced self.new ≡ content self.old) }
         ensures refused { OnErr result (synced self.new ≡ synced self.old) }
         ensures works { StillWorks (works self.old) (works self.new) (IsOk result) }
+        ensures tells_length { IsTrue (tells_length self.old) → IsTrue (tells_length self.new) }
         ensures honest { honest self.new ≡ honest self.old };
 }
 
 /// A file of the system, under a lock as long as it is open. What it holds no clause can name, so it shows no bytes and
-/// is not honest: that these four calls do what the trait says of an honest file is trusted. Nor is it one that works,
-/// since the system may refuse any call.
+/// is not honest: that these four calls do what the trait says of an honest file is trusted. Nor is it one that works or
+/// that always tells its length, since the system may refuse any call.
 #[derive(Drop)]
 pub struct StdFile {
     file: File,
@@ -93,6 +100,8 @@ impl RawFile for StdFile {
     ghost honest = { λ _. false };
 
     ghost works = { λ _. false };
+
+    ghost tells_length = { λ _. false };
 
     fn read_some(&mut self, at: u64, buf: &mut [u8]) -> Result<usize, RawFault> {
         self.file.read_at(buf, at).map_err(|_| RawFault)

@@ -23,4 +23,5 @@ reading-preserved g c =
         same_honest = c.in-Ok.ensures.same.same_honest ∙ c.reading.invariant.2.same_honest;
       },
       λ works. (c.in-Ok.ensures.works (c.reading.invariant.3 works)).0,
+      λ told. c.in-Ok.ensures.tells_length (c.reading.invariant.4 told),
     )

@@ -23,4 +23,5 @@ writing-preserved g c =
       Torn-rest c.args.at all c.writing.taken (length rest) _ _ _ few c.writing.invariant.4 c.in-Ok.ensures.torn_synced,
       c.in-Ok.ensures.honest ∙ c.writing.invariant.5,
       λ works. (c.in-Ok.ensures.works (c.writing.invariant.6 works)).0,
+      λ told. c.in-Ok.ensures.tells_length (c.writing.invariant.7 told),
     )

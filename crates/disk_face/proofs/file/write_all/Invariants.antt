@@ -12,6 +12,7 @@ invariant-writing g l =
     × Torn l.at (length l.bytes) (g.F.RawFile.synced l.initial.file) (g.F.RawFile.synced l.file)
     × (g.F.RawFile.honest l.file ≡ g.F.RawFile.honest l.initial.file)
     × (IsTrue (g.F.RawFile.works l.initial.file) → IsTrue (g.F.RawFile.works l.file))
+    × (IsTrue (g.F.RawFile.tells_length l.initial.file) → IsTrue (g.F.RawFile.tells_length l.file))
 
 abbrev pub decreases-writing : goal.decreases-writing
 decreases-writing g l = length l.bytes - l.taken
