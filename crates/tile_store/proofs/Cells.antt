@@ -10,7 +10,7 @@ use Rattle.arr_core.specs.Tiles.{tile_boxes, tile_box, TileMeets}
 use Rattle.arr_core.proofs.Grids.{in-no-other}
 use Rattle.file_bytes.specs.declared.form.Form.{Form}
 use Rattle.file_bytes.specs.declared.form.Form.TheVariants.{Runs, Raw}
-use Rattle.run_tile.specs.Raw.{Spells}
+use Rattle.run_tile.specs.Raw.{Spells, form_of}
 use Rattle.tile_index.specs.declared.entry.Entry.{Entry}
 use Rattle.tile_index.specs.Index.{found_at}
 use Rattle.block_file.specs.State.{BlocksState, block_at}
@@ -39,10 +39,11 @@ spelled_some kind content e bytes cells is s =
     let there : cells_read e.form kind (entry_data content e) ≡ cells = rw (← is) (spelled_cells e.form kind bytes cells s) in
     (λ i. rw there refl, λ e' some. (let other : e ≡ e' = cc in rw (← other, there, ← is) (s, refl)))
 
-pub written_some : (kind : FieldType) (content : List ℕ) (e : Entry) (bytes : List ℕ) (cells : List ℤ) → bytes ≡ entry_data content e → Spells e.form kind bytes cells → length e.blocks ≡ tile_blocks kind cells → IsPadded content e → IsWritten kind content (Some e) cells
-written_some kind content e bytes cells is s size padded = record {
+pub written_some : (kind : FieldType) (content : List ℕ) (e : Entry) (bytes : List ℕ) (cells : List ℤ) → bytes ≡ entry_data content e → Spells e.form kind bytes cells → e.form ≡ form_of kind cells → length e.blocks ≡ tile_blocks kind cells → IsPadded content e → IsWritten kind content (Some e) cells
+written_some kind content e bytes cells is s form size padded = record {
   has = (spelled_some kind content e bytes cells is s).0;
   spelled = (spelled_some kind content e bytes cells is s).1;
+  form = λ e' some. (let other : e ≡ e' = cc in rw (← other) form);
   size = size;
   padded = λ e' some. (let other : e ≡ e' = cc in rw (← other) padded);
 }
@@ -57,12 +58,13 @@ read_some kind n s entry e bytes cells some is spells size = rw (some, ← size)
 
 -- it stays so while its blocks hold what they hold
 pub written_kept : (kind : FieldType) (old new : List ℕ) (entry : Option Entry) (cells : List ℤ) → IsWritten kind old entry cells → ((k : ℕ) → 0 < entry_times entry k → block_at new k ≡ block_at old k) → IsWritten kind new entry cells
-written_kept kind old new None cells w same = record { has = w.has; spelled = λ e none. absurd (cc); size = w.size; padded = λ e none. absurd (cc) }
+written_kept kind old new None cells w same = record { has = w.has; spelled = λ e none. absurd (cc); form = w.form; size = w.size; padded = λ e none. absurd (cc) }
 written_kept kind old new (Some e) cells w same =
     let is : entry_data new e ≡ entry_data old e = data_same old new e same in
     record {
       has = λ i. rw is (w.has i);
       spelled = λ e' some. (let other : e ≡ e' = cc in rw (← other, is) (w.spelled e refl));
+      form = w.form;
       size = w.size;
       padded = λ e' some. (let other : e ≡ e' = cc in rw (← other) (padded_same old new e same (w.padded e refl)));
     }

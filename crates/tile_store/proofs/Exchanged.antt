@@ -93,7 +93,7 @@ pub patched_exchanged : {u : Patch} {s0 s1 s2 : BlocksState} {old new : List (�
 patched_exchanged {u = u} {s0 = s0} {s1 = s1} {s2 = s2} {old = old} {new = new} {r = r} sound p x honest =
     let kept = keeps_taken u.domain.now old r.fresh.blocks.items s0 s1 sound honest p.takes in
     let changes = r.fresh.changes.items in
-    patched_of u old new s0 s2 p.domain.ordered x.is_index (λ k some. same_block s1 s2 k x.given_back.content ∙ kept k some) (λ t. elim (some_or (found_at t changes)) [
+    patched_of u old new s0 s2 p.domain.ordered (λ k some. same_block s1 s2 k x.given_back.content ∙ kept k some) (λ t. elim (some_or (found_at t changes)) [
       | inl c ↦ inl (record {
         meets = (p.meeting.exact t).0 (found_listed t changes c.0 c.1);
         written = rw (x.changed t, c.1, x.given_back.content) (found_is (λ (y : ℕ × Option Entry). IsWritten u.kind s1.content y.1 (patched u s0 old y.0)) t changes c.0 (p.written.written honest) c.1);

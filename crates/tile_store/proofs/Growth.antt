@@ -1,5 +1,5 @@
 -- How far the write of a patch grows a file.
-use Rattle.std.proofs.Common.{◌≡◌, ℕ, zero, suc, ◌+◌, ◌-◌, ◌<◌, ◌≤◌, ◌∙◌, ap, IsTrue, ℤ, List, [], ◌∷◌, length, take, get_or, sum_by, Contains, arith, refl, sym}
+use Rattle.std.proofs.Common.{◌≡◌, ℕ, zero, suc, ◌+◌, ◌<◌, ◌≤◌, ◌∙◌, ap, IsTrue, ℤ, List, [], ◌∷◌, length, take, get_or, sum_by, Contains, arith, refl, sym}
 use Rattle.std.specs.List.{AllPairs}
 use Rattle.std.proofs.lemmas.List.Kept.{AllPairs-from_increasing}
 use Rattle.std.proofs.lemmas.List.Sums.{sum_by_more_le}

@@ -1,9 +1,9 @@
 -- A field after a write: its numbers and its tiles.
-use Rattle.std.proofs.Common.{◌≡◌, ℕ, suc, ◌+◌, ◌-◌, ◌<◌, ◌≤◌, ◌^◌, List, [], ◌∷◌, ◌++◌, length, get_or, take, map, arith, refl, sym, ◌∙◌, ap, ◌⊎◌, inl, inr, Option, Some, None, IsTrue, All, sum_by, ℤ, pos, int_eq}
+use Rattle.std.proofs.Common.{◌≡◌, ℕ, suc, ◌+◌, ◌-◌, ◌<◌, ◌≤◌, ◌^◌, List, [], ◌∷◌, ◌++◌, length, get_or, take, map, arith, refl, sym, ◌∙◌, ap, ◌⊎◌, inl, inr, Option, Some, IsTrue, All, sum_by, ℤ}
 use Rattle.std.proofs.lemmas.Bool.{cases_eq}
 use Rattle.std.proofs.lemmas.List.{length-map, map_push, take_more}
 use Rattle.std.proofs.lemmas.List.Elements.{All-push}
-use Rattle.std.proofs.lemmas.List.Sums.{sum_by-cons, sum_by_push, list_all-from_AllPass}
+use Rattle.std.proofs.lemmas.List.Sums.{sum_by-cons, sum_by_push}
 use Rattle.arr_core.specs.declared.cell.FieldType.{FieldType}
 use Rattle.arr_core.specs.declared.domain.Axis.{Axis}
 use Rattle.arr_core.specs.Domains.{points, rank_of, AreOrdered, IsDomain, IsInside}
@@ -17,7 +17,7 @@ use Rattle.block_file.specs.Words.{OnlyReads}
 use Rattle.block_file.proofs.Times.{times_none}
 use Rattle.tile_index.specs.declared.entry.Entry.{Entry}
 use Rattle.tile_index.specs.Entries.{IsEntry}
-use Rattle.tile_index.specs.Index.{found_at, IsIndex}
+use Rattle.tile_index.specs.Index.{found_at}
 use Rattle.tile_store.specs.declared.numbers.Patch.{Patch}
 use Rattle.tile_store.specs.declared.update.Fresh.{Fresh}
 use Rattle.tile_store.specs.Listing.{listed, tiles_of, IsSound, Takes}
@@ -30,7 +30,6 @@ use Rattle.tile_store.proofs.Cells.{cells_listed, cell_listed, number_in_tile, w
 use Rattle.tile_store.proofs.Kept.{cells_kept, padded_kept, tile_kept, keeps_listed}
 use Rattle.tile_store.proofs.Listed.{given_push, given_at}
 use Rattle.tile_store.proofs.Rows.{inside_cases}
-use Rattle.tile_store.proofs.Sizes.{entry_few, found_entry}
 
 -- what a write leaves of a tile that its box meets
 pub record IsAfter (u : Patch) (before after : BlocksState) (old new : List (ℕ × Entry)) (t : ℕ) : Type 0 where
@@ -74,12 +73,8 @@ spelled_after : {u : Patch} {before after : BlocksState} {old new : List (ℕ ×
 spelled_after {u = u} {t = t} m e some =
     (let here = m.written.spelled e some in (here.0, here.1 ∙ length-map (points (tile_box u.domain.now t)) _ ∙ length-points (tile_box u.domain.now t)))
 
-none_of : (o : Option Entry) → entry_blocks o ≡ 0 → ((e : Entry) → o ≡ Some e → IsEntry e) → o ≡ None
-none_of None z h = refl
-none_of (Some e) z h = absurd (omega (arith, z, (entry_few e (h e refl)).0))
-
-pub patched_of : (u : Patch) (old new : List (ℕ × Entry)) (before after : BlocksState) → AreOrdered u.domain.now → IsIndex new → KeepsListed old before.content after.content → ((t : ℕ) → TileAfter u before after old new t) → IsPatched u before old after new
-patched_of u old new before after ordered index kept w = record {
+pub patched_of : (u : Patch) (old new : List (ℕ × Entry)) (before after : BlocksState) → AreOrdered u.domain.now → KeepsListed old before.content after.content → ((t : ℕ) → TileAfter u before after old new t) → IsPatched u before old after new
+patched_of u old new before after ordered kept w = record {
   numbers = values_after u old new before after ordered kept w;
   written = λ t meets. elim (w t) [ inl m ↦ spelled_after m | inr same ↦ absurd (same.0 meets) ];
   others = λ t spelled. elim (w t) [
@@ -87,12 +82,7 @@ patched_of u old new before after ordered index kept w = record {
     | inr same ↦ λ e some. tile_kept u.kind u.domain.now old before.content after.content t kept spelled e (sym same.1 ∙ some)
   ];
   same = λ t apart. elim (w t) [ inl m ↦ absurd (apart m.meets) | inr same ↦ same.1 ];
-  absent = λ t meets zeros. elim (w t) [
-    | inl m ↦
-        let pass = list_all-from_AllPass (int_eq (pos 0)) (patched u before old t) (λ i d lt. rw (zeros i d lt) refl) in
-        none_of (found_at t new) (m.written.size ∙ rw pass refl) (λ e some. found_entry new t e index some)
-    | inr same ↦ absurd (same.0 meets)
-  ];
+  form = λ t meets. elim (w t) [ inl m ↦ m.written.form | inr same ↦ absurd (same.0 meets) ];
   blocks = λ t meets. elim (w t) [ inl m ↦ m.written.size | inr same ↦ absurd (same.0 meets) ];
   padded = λ t was. elim (w t) [
     | inl m ↦ m.written.padded

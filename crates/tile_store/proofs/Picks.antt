@@ -1,5 +1,5 @@
 -- Cells at ranks are those that the tile has there.
-use Rattle.std.proofs.Common.{◌≡◌, ℕ, zero, suc, ◌+◌, ◌-◌, ◌*◌, ◌/◌, ◌%◌, ◌<◌, ◌≤◌, IsTrue, List, [], ◌∷◌, length, get_or, take, map, replicate, flat_map, All, Option, Some, None, ℤ, pos, Result, Ok, Err, OnOk, arith, refl, sym, ap, ◌∙◌, length-append, set, ◌≢◌, below_more}
+use Rattle.std.proofs.Common.{◌≡◌, ℕ, zero, suc, ◌+◌, ◌-◌, ◌*◌, ◌/◌, ◌%◌, ◌<◌, ◌≤◌, IsTrue, List, [], ◌∷◌, length, get_or, map, replicate, flat_map, All, Option, Some, None, ℤ, pos, Result, Ok, Err, OnOk, arith, refl, sym, ap, ◌∙◌, length-append, set, ◌≢◌, below_more}
 use Rattle.std.proofs.lemmas.List.{length-take-le, length-replicate, get_or-take, get_or_append_left, get_or-append_right, get_or-set_other, get_or-set_same}
 use Rattle.std.proofs.lemmas.List.Concat.{flat_map-cons}
 use Rattle.arr_core.specs.declared.cell.FieldType.{FieldType}

@@ -1,5 +1,5 @@
 -- Numbers for a box of a field, and what their writing leaves.
-use Rattle.std.specs.Prelude.{◌≡◌, ◌⊎◌, ℕ, ◌<◌, ℤ, pos, IsTrue, List, All, None, Result}
+use Rattle.std.specs.Prelude.{◌≡◌, ◌⊎◌, ℕ, ◌<◌, ℤ, IsTrue, List, Result}
 use Rattle.arr_core.specs.Domains.{IsBoxOf}
 use Rattle.arr_core.specs.Stores.{updated_values}
 use Rattle.arr_core.specs.Tiles.{tile_box, TileMeets}
@@ -10,7 +10,7 @@ use Rattle.tile_index.specs.Index.{found_at}
 use Rattle.tile_store.specs.declared.numbers.Patch.{Patch}
 use Rattle.tile_store.specs.Listing.{Index, IsSound}
 use Rattle.tile_store.specs.Numbers.{AreNumbers, numbers_in}
-use Rattle.tile_store.specs.Stored.{field_values, IsTileSpelled, IsTilePadded}
+use Rattle.tile_store.specs.Stored.{field_values, IsTileSpelled, IsTilePadded, HasForm}
 use Rattle.tile_store.specs.Faults.{Refuses}
 use Rattle.tile_store.specs.Room.{cells_after, tile_blocks, entry_blocks, new_blocks, room_for, AreMeeting}
 
@@ -54,15 +54,15 @@ abbrev pub blocks_after : Patch → BlocksState → Index → ℕ → ℕ
 blocks_after u s index tile = tile_blocks u.kind (patched u s index tile)
 
 -- What a write of a patch leaves: the field's values, function update on the box; each tile that the box meets is
--- spelled, with zeros behind its bytes, takes as many blocks as its new cells need, and is not listed where they are
--- all 0; the others stay spelled and padded, and listed as they were; and each tile that was read was spelled.
+-- spelled, with zeros behind its bytes, in the form that its new cells are written in, and takes as many blocks as they
+-- need, none where they are all 0; the others stay spelled and padded, and listed as they were; and each tile that was
+-- read was spelled.
 pub record IsPatched (u : Patch) (old : BlocksState) (index : Index) (new : BlocksState) (index' : Index) : Type 0 where
   pub numbers : values_for u new index' ≡ updated_values u.domain.now u.area.now (numbers_of u) (values_for u old index)
   pub written : (tile : ℕ) → MeetsTile u tile → IsSpelledFor u new index' tile
   pub others : (tile : ℕ) → IsSpelledFor u old index tile → IsSpelledFor u new index' tile
   pub same : (tile : ℕ) → (MeetsTile u tile → ⊥) → found_at tile index' ≡ found_at tile index
-  pub absent : (tile : ℕ) → MeetsTile u tile → All (λ z. z ≡ pos 0) (patched u old index tile)
-      → found_at tile index' ≡ None
+  pub form : (tile : ℕ) → MeetsTile u tile → HasForm u.kind (found_at tile index') (patched u old index tile)
   pub blocks : (tile : ℕ) → MeetsTile u tile → entry_blocks (found_at tile index') ≡ blocks_after u old index tile
   pub padded : (tile : ℕ) → MeetsTile u tile ⊎ IsTilePadded index old.content tile
       → IsTilePadded index' new.content tile

@@ -7,7 +7,7 @@ use Rattle.arr_core.specs.Domains.{points, count, rank_of}
 use Rattle.arr_core.specs.Tiles.{tile_box}
 use Rattle.arr_core.specs.Meeting.{tile_number}
 use Rattle.file_bytes.specs.declared.form.Form.{Form}
-use Rattle.run_tile.specs.Raw.{Spells, cells_in}
+use Rattle.run_tile.specs.Raw.{Spells, cells_in, form_of}
 use Rattle.tile_index.specs.declared.entry.Entry.{Entry}
 use Rattle.tile_index.specs.Index.{found_at}
 use Rattle.block_file.specs.State.{block_at}
@@ -54,6 +54,10 @@ IsTileSpelled kind domain index content tile =
 -- a tile is not listed, or zeros follow its bytes
 abbrev pub IsTilePadded : List (ℕ × Entry) → List ℕ → ℕ → Type 0
 IsTilePadded index content tile = (e : Entry) → found_at tile index ≡ Some e → IsPadded content e
+
+-- a tile has no entry, or is in the form that its cells are written in: raw exactly where that takes fewer bytes
+abbrev pub HasForm : FieldType → Option Entry → List ℤ → Type 0
+HasForm kind entry cells = (e : Entry) → entry ≡ Some e → e.form ≡ form_of kind cells
 
 -- each listed tile's bytes spell as many cells as the tile has points
 unfoldable pub IsSpelled : FieldType → List Axis → List (ℕ × Entry) → List ℕ → Type 0

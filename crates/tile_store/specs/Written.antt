@@ -22,7 +22,7 @@ use Rattle.tile_store.specs.Listing.{Index, entry_times, listed_for, tiles_of, g
 use Rattle.tile_store.specs.Overlays.{cell_at}
 use Rattle.tile_store.specs.Patches.{CoversTile, IsSpelledFor, patched, HasDamaged, blocks_after}
 use Rattle.tile_store.specs.Room.{tile_blocks, entry_blocks, new_blocks, replaced_bytes, given_bytes, AreMeeting}
-use Rattle.tile_store.specs.Stored.{SpellsMany, entry_data, IsPadded, tile_cells, number_at}
+use Rattle.tile_store.specs.Stored.{SpellsMany, entry_data, IsPadded, tile_cells, number_at, HasForm}
 
 -- a block holds the part of some bytes that stands at a place, counted in blocks, and zeros behind the last of them
 pub record HoldsPart (block : List ℕ) (place : ℕ) (bytes : List ℕ) : Type 0 where
@@ -52,11 +52,12 @@ abbrev pub HasCells : FieldType → List ℕ → Option Entry → List ℤ → T
 HasCells kind content entry cells =
     (i : ℕ) → slice_index_or (tile_cells kind content entry) i (pos 0) ≡ slice_index_or cells i (pos 0)
 
--- these cells were written as a tile: it has them, its bytes spell them, it has as many blocks as they need, and the
--- last one is filled with zeros
+-- these cells were written as a tile: it has them, its bytes spell them, in the form that takes fewer, it has as many
+-- blocks as they need, and the last one is filled with zeros
 pub record IsWritten (kind : FieldType) (content : List ℕ) (entry : Option Entry) (cells : List ℤ) : Type 0 where
   pub has : HasCells kind content entry cells
   pub spelled : EntrySpells kind content entry (length cells)
+  pub form : HasForm kind entry cells
   pub size : entry_blocks entry ≡ tile_blocks kind cells
   pub padded : EntryPadded content entry
 

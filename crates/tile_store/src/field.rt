@@ -193,8 +193,9 @@ fn exchange<B: Blocks>(
 }
 
 /// Writes a patch into its field. The other metadata has `rest` bytes, or more than a `u64` holds where that is its
-/// last value. After a refusal the field is as before, and no block is used otherwise. The new tiles lie in the lowest
-/// blocks that are free.
+/// last value. After a refusal the field is as before, and no block is used otherwise. However it ends, the file of an
+/// honest disk is no longer than it was, or than the header, the blocks that were in use and those of the new tiles
+/// take.
 pub fn write_area<B: Blocks>(
     alloc: Global,
     blocks: &mut B,

@@ -1,5 +1,6 @@
-//! One field of a coverage over the blocks of a file: its cells lie in tiles, and a tile as runs of equal cells. A
-//! write goes to fresh blocks first, and then the index of the field is exchanged.
+//! One field of a coverage over the blocks of a file: its cells lie in tiles, and a tile as runs of equal cells, or as
+//! its cells one after the other where that takes fewer bytes. A write goes to fresh blocks first, and then the index
+//! of the field is exchanged.
 #![tactic(auto)]
 
 mod bytes;

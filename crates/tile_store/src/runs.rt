@@ -69,9 +69,9 @@ fn fill_runs<B: Blocks>(
     }
 }
 
-/// Makes a list that of the stored numbers of a tile, by its number, at its points in row-major order: as runs where
-/// the tile lies so, else one by one. The list has a value for each of these points, and keeps as many. Refused as
-/// `read_tile_into`; after a refusal the list stands for any numbers, and `bytes` holds anything.
+/// Makes a list that of the stored numbers of a tile, by its number, at its points in row-major order, as runs or one
+/// by one. The list has a value for each of these points, and keeps as many. Refused as `read_tile_into`; after a
+/// refusal the list stands for any numbers, and `bytes` holds anything.
 pub fn read_runs_into<B: Blocks>(
     blocks: &mut B,
     field: FieldTiles,

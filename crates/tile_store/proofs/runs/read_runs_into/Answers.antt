@@ -1,5 +1,5 @@
 -- The tile that was read is the one with the number, and its box has as many points as the list has values.
-use Rattle.std.proofs.Common.{refl, rules, arith, ◌∙◌, ◌≡◌, length}
+use Rattle.std.proofs.Common.{refl, rules, arith, ◌∙◌, ◌≡◌}
 use Rattle.arr_core.specs.Domains.{count}
 use Rattle.arr_core.proofs.Points.{length-points, count-pos}
 use Rattle.arr_core.specs.Tiles.{tile_box}

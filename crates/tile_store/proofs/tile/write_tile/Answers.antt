@@ -38,6 +38,7 @@ returns-clause-written g c =
       written = λ honest. written_some c.args.kind _ _ bytes c.args.cells.now
           (data_written _ _ bytes c.in_ok-fresh.fresh.items blocks long (holds.bytes_are honest))
           c.in_ok-form.ensures.spelled
+          c.in_ok-form.ensures.form
           (ap length blocks ∙ filled ∙ ap blocks_filled c.in_ok-form.ensures.length ∙ rw (sym c.are_zero.ensures.test ∙ c.if-are_zero.false) refl)
           (padded_written _ _ bytes c.in_ok-fresh.fresh.items blocks long (holds.padded honest));
       whole = λ honest. rw (sym blocks) at (holds.whole honest);

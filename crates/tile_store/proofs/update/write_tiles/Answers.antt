@@ -123,3 +123,9 @@ returns-in_err-entry-clause-told g c =
       told = λ is. subst (λ n. Rose n (g.B.Blocks.state c.write_tile.new.blocks).failures) before (last.told (search rules));
       quiet = λ none. last.quiet (λ is. none (search rules)) ∙ before;
     }
+
+pub returns-in_err-push-clause-told : goal.returns-in_err-push-clause-told
+returns-in_err-push-clause-told g c = record {
+  told = λ is. absurd (first_of (search rules, cc));
+  quiet = λ none. c.in_ok-entry.ensures.told.quiet (λ e. cc) ∙ c.in_ok-cells.ensures.told.quiet (λ e. cc) ∙ c.loop-tile.invariant.quiet;
+}
