@@ -24,7 +24,7 @@ use Rattle.tile_index.specs.Index.{found_at}
 use Rattle.tile_store.specs.declared.numbers.Patch.{Patch}
 use Rattle.tile_store.specs.Patches.{IsPatched, numbers_of}
 use Rattle.tile_store.specs.Room.{entry_blocks, tile_blocks, cells_after, patched_at}
-use Rattle.tile_store.specs.Stored.{field_values, number_at, IsTileSpelled, IsPadded, KeepsListed}
+use Rattle.tile_store.specs.Stored.{field_values, number_at, IsTileSpelled, IsPadded, KeepsListed, HasForm}
 use Rattle.tile_store.proofs.Kept.{tile_kept, padded_kept}
 use Rattle.raster_store.specs.declared.held.Held.{Held}
 use Rattle.raster_store.specs.Views.{Index, SnapshotView, values_in}
@@ -32,7 +32,7 @@ use Rattle.raster_store.specs.Calls.{signature_of, AreSameSignatures, index_of}
 use Rattle.raster_store.specs.Fields.{HasKind}
 use Rattle.raster_store.specs.Fetches.{IsSpelledOf}
 use Rattle.raster_store.specs.Holding.{coverages_of, coverage_of, indexes_of, index_at, IsNamedAt, IsHeld}
-use Rattle.raster_store.specs.Tiles.{entry_in, values_of_tile, TakesItsBlocks, WritesTiles}
+use Rattle.raster_store.specs.Tiles.{entry_in, values_of_tile, TakesItsBlocks, HasItsForm, IsCovered, IsSpelledTile, WritesTiles}
 use Rattle.raster_store.proofs.Contents.{KeepsFields, KeepsAll, fields_kept, all_kept, values-at, named_within, found_named}
 use Rattle.raster_store.proofs.Readings.{some_within, some_at, kind_gives, known_named, indexes_at, box_inside, same_map, spelled_named}
 use Rattle.raster_store.proofs.Writes.{view_of, same_signatures}
@@ -273,6 +273,15 @@ module _ {s : BlocksState} {content : List ℕ} {held : List Held} {name : List 
       let of : f.kind ≡ kind = kind_is (slice_get h.signature.fields j) f kind (ap (λ (t : Signature). slice_get t.fields j) told ∙ is_field) w.of_kind in
       rw (← index, of) (subst (λ (d : List Axis). IsTileSpelled kind d x' content tile) (ap (λ (t : Signature). t.domain) told) spelled)
 
+  -- a tile of the field was spelled before
+  spelled_before : (tile : ℕ) → IsTileSpelled kind h.signature.domain (index_at h j) s.content tile → IsSpelledOf name j tile s.content before (indexes_of held)
+  spelled_before tile spelled c f x is_found is_field is_index =
+      let same : coverage_of s.content h ≡ c = (let e : Some (coverage_of s.content h) ≡ Some c = sym found_before ∙ is_found in cc) in
+      let told : h.signature ≡ signature_of c = ap signature_of same in
+      let index : index_at h j ≡ x = (let e : Some (index_at h j) ≡ Some x = sym index_before ∙ is_index in cc) in
+      let of : f.kind ≡ kind = kind_is (slice_get h.signature.fields j) f kind (ap (λ (t : Signature). slice_get t.fields j) told ∙ is_field) w.of_kind in
+      rw (← index, of) (subst (λ (d : List Axis). IsTileSpelled kind d (index_at h j) s.content tile) (ap (λ (t : Signature). t.domain) told) spelled)
+
   spelled_apart : (n : List ℕ) (f tile : ℕ) → (n ≡ name → f ≡ j → ⊥) → IsSpelledOf n f tile s.content before (indexes_of held) → IsSpelledOf n f tile content after (indexes_of (set held i h'))
   spelled_apart n f tile apart spelled c g x is_found is_field is_index =
       let old = found_like n before after c w.signatures is_found in
@@ -301,18 +310,34 @@ module _ {B : Type 0} (state : B → BlocksState) (old new : B) {held : List Hel
   meets_store : (tile : ℕ) → TileMeets h.signature.domain tile u.area.now → IsSomeAnd (found name (coverages_of (state old).content held)) (λ c. TileMeets c.domain tile u.area.now)
   meets_store tile met = some_at (found name (coverages_of (state old).content held)) (coverage_of (state old).content h) (λ c. TileMeets c.domain tile u.area.now) (found_before w) met
 
-  takes_here : (tile : ℕ) → TileMeets h.signature.domain tile u.area.now → TakesItsBlocks name j tile (view_of state new (set held i h') xs' fetched)
-  takes_here tile met =
+  -- what is so of a tile's new entry and cells is so of them in the store
+  put_here : (P : FieldType → Option Entry → List ℤ → Type 0) (tile : ℕ) → TileMeets h.signature.domain tile u.area.now → P kind (found_at tile x') (cells_after kind h.signature.domain (index_at h j) (state old).content u.area.now (numbers_of u) tile)
+      → IsSomeAnd (found name (coverages_of (state new).content (set held i h')))
+      (λ c. IsSomeAnd (slice_get c.fields j) (λ (f : Field). P f.kind (entry_in name j tile (view_of state new (set held i h') xs' fetched)) (values_of_tile c j tile)))
+  put_here P tile met fact =
       let content = (state old).content in
       let after = coverages_of (state new).content (set held i h') in
-      let indexes = indexes_of (set held i h') in
       let c = updated_coverage j u.area.now (numbers_of u) (coverage_of content h) in
       let is_found : found name after ≡ Some c = ap (found name) put ∙ found_put name j u.area.now (numbers_of u) (coverages_of content held) (coverage_of content h) (found_before w) in
-      let blocks = (rw (same, domain) at (done.blocks tile)) met in
-      let fact : entry_blocks (found_at tile (unwrap_or (index_of name j after indexes) [])) ≡ tile_blocks kind (values_of_tile c j tile) =
-      ap (λ (o : Option Index). entry_blocks (found_at tile (unwrap_or o []))) (index_here w) ∙ blocks ∙ ap (tile_blocks kind) (sym (tile_put content h j kind u.area.now (numbers_of u) tile w.of_kind w.field box met)) in
-      some_at (found name after) c (λ c. IsSomeAnd (slice_get c.fields j) (λ (f : Field). entry_blocks (found_at tile (unwrap_or (index_of name j after indexes) [])) ≡ tile_blocks f.kind (values_of_tile c j tile))) is_found
-      (kind_gives (slice_get h.signature.fields j) kind (λ (k : FieldType). entry_blocks (found_at tile (unwrap_or (index_of name j after indexes) [])) ≡ tile_blocks k (values_of_tile c j tile)) w.of_kind fact)
+      let entry : Option Entry = found_at tile (unwrap_or (index_of name j after (indexes_of (set held i h'))) []) in
+      let listed : found_at tile x' ≡ entry = sym (ap (λ (o : Option Index). found_at tile (unwrap_or o [])) (index_here w)) in
+      let there : P kind entry (values_of_tile c j tile) =
+      subst (λ (e : Option Entry). P kind e (values_of_tile c j tile)) listed (subst (P kind (found_at tile x')) (sym (tile_put content h j kind u.area.now (numbers_of u) tile w.of_kind w.field box met)) fact) in
+      some_at (found name after) c (λ c. IsSomeAnd (slice_get c.fields j) (λ (f : Field). P f.kind entry (values_of_tile c j tile))) is_found
+      (kind_gives (slice_get h.signature.fields j) kind (λ (k : FieldType). P k entry (values_of_tile c j tile)) w.of_kind there)
+
+  takes_here : (tile : ℕ) → TileMeets h.signature.domain tile u.area.now → TakesItsBlocks name j tile (view_of state new (set held i h') xs' fetched)
+  takes_here tile met = put_here (λ k e cells. entry_blocks e ≡ tile_blocks k cells) tile met ((rw (same, domain) at (done.blocks tile)) met)
+
+  form_here : (tile : ℕ) → TileMeets h.signature.domain tile u.area.now → HasItsForm name j tile (view_of state new (set held i h') xs' fetched)
+  form_here tile met = put_here HasForm tile met ((rw (same, domain) at (done.form tile)) met)
+
+  read_here : (tile : ℕ) → TileMeets h.signature.domain tile u.area.now
+      → IsCovered u.area.now (view_of state old held xs fetched) name tile ⊎ IsSpelledTile state (view_of state old held xs fetched) name j tile
+  read_here tile met = elim ((rw (same, domain) at (done.read tile)) met) [
+    | inl covers ↦ inl (some_at (found name (coverages_of (state old).content held)) (coverage_of (state old).content h) (λ c. IsBoxOf u.area.now (tile_box c.domain tile)) (found_before w) covers)
+    | inr spelled ↦ inr (spelled_before w tile spelled)
+  ]
 
   entry_here : (tile : ℕ) → (TileMeets h.signature.domain tile u.area.now → ⊥) → entry_in name j tile (view_of state new (set held i h') xs' fetched) ≡ entry_in name j tile (view_of state old held xs fetched)
   entry_here tile apart =
@@ -330,6 +355,7 @@ module _ {B : Type 0} (state : B → BlocksState) (old new : B) {held : List Hel
   pub tiles_written : WritesTiles state name j u.area.now (view_of state old held xs fetched) (view_of state new (set held i h') xs' fetched)
   tiles_written = record {
     takes = λ n f tile met. rw (met.0, met.1) (takes_here tile (meets tile met.2));
+    form = λ n f tile met. rw (met.0, met.1) (form_here tile (meets tile met.2));
     others = λ n f tile unmet. elim (this_or n name f j) [
       | inl both ↦ rw (both.0, both.1) (entry_here tile (λ met. unmet (both.0, both.1, meets_store tile met)))
       | inr apart ↦ ap (λ (o : Option Index). found_at tile (unwrap_or o [])) (index_apart w n f apart)
@@ -345,4 +371,5 @@ module _ {B : Type 0} (state : B → BlocksState) (old new : B) {held : List Hel
       | inl both ↦ rw (both.0, both.1) (padded_here tile (elim was [ inl met ↦ inl (meets tile met.2) | inr padded ↦ inr (rw (both.0, both.1) at padded) ]))
       | inr apart ↦ elim was [ inl met ↦ absurd (apart met.0 met.1) | inr padded ↦ padded_apart w n f tile apart padded ]
     ];
+    read = λ n f tile met. rw (met.0, met.1) (read_here tile (meets tile met.2));
   }

@@ -19,10 +19,10 @@ use tile_store::Fault;
 
 impl<B: Blocks> RasterStore<B> {
     /// Makes a list that of the stored numbers of a tile, in row-major order, of the coverages that are held for a job,
-    /// by their places there, as `fetch_at` does: as runs where the tile lies so, else one by one. The list has a value
-    /// for each point of the tile, and keeps as many. For number 0, where nothing is held for it, of those of the store
-    /// as it is. `Damaged` comes where `fetch_at` tells it. After a refusal the list stands for any numbers, and the
-    /// tile is not counted as fetched.
+    /// by their places there, as `fetch_at` does: as runs or one by one. The list has a value for each point of the
+    /// tile, and keeps as many. For number 0, where nothing is held for it, of those of the store as it is. `Damaged`
+    /// comes where `fetch_at` tells it. After a refusal the list stands for any numbers, and the tile is not counted as
+    /// fetched.
     pub fn fetch_runs_at(&mut self, job: u64, at: TileAt, runs: &mut RunList) -> Result<(), Fault>
         requires tile { OnHeldFor job self.old (λ v. HasTile at v.coverages) }
         requires room { OnHeldFor job self.old (λ v. HasTileCount at v.coverages runs.old.values.items) }
