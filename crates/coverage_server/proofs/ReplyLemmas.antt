@@ -57,7 +57,7 @@ spelled_badly r e code s is (inr x) =
 told_refusal : (asked : Result (List ℕ) Refusal) (r : Refusal) (s : Placed)
     → (asked ≡ Err r) ⊎ (IsOk asked × (r ≡ refusal.NoMemory)) → MessageStep s asked (Refused (number_of r)) s
 told_refusal asked r s (inl x) =
-    subst (λ (a : Result (List ℕ) Refusal). MessageStep s a (Refused (number_of r)) s) (sym x) (inl (refl, refl))
+    subst (λ (a : Result (List ℕ) Refusal). MessageStep s a (Refused (number_of r)) s) (sym x) (refl, refl)
 told_refusal (Ok pairs) r s (inr x) =
     subst (λ (q : Refusal). SpelledStep (spelled pairs) s (Refused (number_of q)) s) (sym x.1) (out_of_memory (spelled pairs) s)
 told_refusal (Err e) r s (inr x) = let no = x.0 in absurd cc

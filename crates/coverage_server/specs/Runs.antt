@@ -184,7 +184,7 @@ SpelledStep (Err e) old reply new = Refuses (refusal_of e) old reply new ⊎ Ref
 -- the step of a message: its pairs are read, or it is refused
 abbrev pub MessageStep : Placed → Result (List ℕ) Refusal → Reply → Placed → Type 0
 MessageStep old (Ok pairs) reply new = SpelledStep (spelled pairs) old reply new
-MessageStep old (Err refusal) reply new = Refuses refusal old reply new ⊎ Refuses NoMemory old reply new
+MessageStep old (Err refusal) reply new = Refuses refusal old reply new
 
 -- The messages lead from one state to the other, and these are the bytes of the reply to each. A disk fault is among
 -- them where a call of the disk failed for that message, and only there; damage only where it may be in the way, and

@@ -344,8 +344,8 @@ impl<D: Disk> Coverages<D> {
         self.cells.fetch_at(number, at, numbers)
     }
 
-    /// Makes `runs` the numbers of a tile of the coverages that a number reads, by its place there, as runs where the
-    /// tile lies so. It has a value for each of the tile's points, and keeps as many.
+    /// Makes `runs` the numbers of a tile of the coverages that a number reads, by its place there, as runs or one by
+    /// one. It has a value for each of the tile's points, and keeps as many.
     pub fn fetch_runs(&mut self, number: u64, at: TileAt, runs: &mut RunList) -> Result<(), Fault>
         requires tile { HasTile at (store_for number self.old) }
         requires room { HasTileCount at (store_for number self.old) runs.old.values.items }

@@ -19,7 +19,6 @@ mod session;
 mod templates;
 
 pub use closing::NotClosed;
-pub use laws::one_answer;
+pub use laws::{one_answer, sessions_compose, templates_are_tomlins};
 pub use server::{ConnectionEnd, Server};
-pub use session::{SessionFault, serve_session, sessions_compose};
-pub use templates::templates_are_tomlins;
+pub use session::{SessionFault, serve_session};

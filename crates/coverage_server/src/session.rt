@@ -2,7 +2,7 @@
 ghost use Rattle.std.specs.Prelude.{◌≡◌, length, IfOk, IsTrue};
 ghost use Rattle.coverage_server.specs.Disk.{ListsNone};
 ghost use Rattle.coverage_server.specs.Leaving.{Continues};
-ghost use Rattle.coverage_server.specs.Sessions.{AreServed, Composes, IsSession, IsUnopened, StaysHonest, ends_all};
+ghost use Rattle.coverage_server.specs.Sessions.{AreServed, IsSession, IsUnopened, StaysHonest, ends_all};
 
 use crate::closing::NotClosed;
 use crate::server::Server;
@@ -54,8 +54,3 @@ pub fn serve_session<D: Disk + Drop, R: Source, W: Sink>(
         Err(NotClosed { server, fault }) => Err(SessionFault::NotClosed(server, fault)),
     }
 }
-
-/// That sessions compose: its contract says it. There is nothing to run.
-pub fn sessions_compose()
-    ensures { Composes }
-{}

@@ -7,7 +7,6 @@ ghost use Rattle.coverage_server.specs.Answered.{Answered, AnswersAsked, IsAnswe
 ghost use Rattle.coverage_server.specs.Fetching.{FetchesForTemplate};
 ghost use Rattle.coverage_server.specs.Machine.{Expands};
 ghost use Rattle.coverage_server.specs.Templates.{GivesExpansion, expansion, layer_of, params_of};
-ghost use Rattle.coverage_server.specs.Tomlin.{TemplatesAreTomlins};
 ghost use Rattle.coverage_server.specs.Views.{still_of};
 
 use crate::cells::AskedCells;
@@ -126,9 +125,3 @@ pub fn process_template<D: Disk>(
     let text = expansion(cells.alloc, &cells.coverages, request)?;
     process(cells, workspace, text.as_str())
 }
-
-/// Over the coverages of a catalogue, whose numbers have 64 bits, the answer to a template that asks for an operation
-/// is the array of that operation, defined by sets of locations, or Overflow; unless the query of its text is refused.
-pub fn templates_are_tomlins()
-    ensures { TemplatesAreTomlins }
-{}
