@@ -124,7 +124,7 @@ found_as n known left future item Ended last bare x s l b = absurd s
 found_as n known left future item ReadFault last bare x s l b = absurd s
 
 -- and of a message or a refusal no fault is told
-pub told_as : (old new : SourceView) (asked : Result (List ℕ) Refusal) (next : Next) → Shows asked next → new.failed ≡ old.failed
+pub told_as : (old new : SourceView) (asked : Result (List ℕ) Refusal) (next : Next) → Shows asked next → new.failures ≡ old.failures
     → TellsNext old new next
 told_as old new asked (Message pairs) s e = e
 told_as old new asked (Refused code) s e = e

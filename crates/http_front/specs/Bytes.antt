@@ -3,7 +3,7 @@ use Rattle.std.specs.Prelude.{◌≡◌, ℕ, Bool, ◌<◌, ◌≤◌, ◌==◌
 use Rattle.std.specs.declared.alloc.Global.{Global}
 use Rattle.std.specs.Io.KnownBytes.{Consumes, IsAtEnd}
 use Rattle.std.specs.List.{list_any}
-use Rattle.stream_face.specs.Faults.{fault_told}
+use Rattle.stream_face.specs.Faults.{one_more_failure}
 use Rattle.stream_face.specs.Views.{SourceView}
 use Rattle.http_front.specs.declared.buffer.Filled.{Filled}
 use Rattle.http_front.specs.declared.buffer.Filled.TheVariants.{More, End, Fault}
@@ -14,11 +14,11 @@ use Rattle.http_front.specs.declared.body.Body.TheVariants.{Kept, Dropped, Short
 abbrev pub has_line_end : List ℕ → Bool
 has_line_end bytes = list_any (λ b. b == 10) bytes
 
--- what is told of faults after a read
+-- a read failed exactly where it says so, and only one did
 abbrev pub TellsFilled : SourceView → SourceView → Filled → Type 0
-TellsFilled old new More = new.failed ≡ old.failed
-TellsFilled old new End = new.failed ≡ old.failed
-TellsFilled old new Fault = new.failed ≡ fault_told old.failed
+TellsFilled old new More = new.failures ≡ old.failures
+TellsFilled old new End = new.failures ≡ old.failures
+TellsFilled old new Fault = new.failures ≡ one_more_failure old.failures
 
 -- what one read of at most so many bytes did: some came and stand behind those that were held; at the end and at a
 -- fault none did
@@ -62,9 +62,9 @@ TakesBody before after held now len Short =
 TakesBody before after held now len Cut =
     (came : List ℕ) × Consumes before.remaining after.remaining came × (length (held ++ came) < len)
 
--- what is told of faults after a body
+-- a read of a body failed exactly where it says so, and only one did
 abbrev pub TellsBody : SourceView → SourceView → Body → Type 0
-TellsBody old new (Kept body) = new.failed ≡ old.failed
-TellsBody old new Dropped = new.failed ≡ old.failed
-TellsBody old new Short = new.failed ≡ old.failed
-TellsBody old new Cut = new.failed ≡ fault_told old.failed
+TellsBody old new (Kept body) = new.failures ≡ old.failures
+TellsBody old new Dropped = new.failures ≡ old.failures
+TellsBody old new Short = new.failures ≡ old.failures
+TellsBody old new Cut = new.failures ≡ one_more_failure old.failures

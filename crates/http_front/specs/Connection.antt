@@ -2,7 +2,7 @@
 use Rattle.std.specs.Prelude.{◌≡◌, ◌≢◌, ℕ, ◌+◌, ◌≤◌, Bool, List, [], ◌++◌, length, Option}
 use Rattle.std.specs.Io.KnownBytes.{Consumes, IsAtEnd}
 use Rattle.httparse.specs.Grammar.{HasNoRequest}
-use Rattle.stream_face.specs.Faults.{fault_told}
+use Rattle.stream_face.specs.Faults.{one_more_failure}
 use Rattle.stream_face.specs.Views.{SourceView}
 use Rattle.http_front.specs.Limits.{max_head, max_body}
 use Rattle.http_front.specs.Head.{IsHeadAt}
@@ -34,13 +34,13 @@ LooksAhead before after held now ahead =
     (came : List ℕ) × Consumes before.remaining after.remaining came × (now ≡ held ++ came) × (length now ≤ max_head)
     × IsAhead now after.remaining ahead
 
--- a read failed in a look ahead exactly where it says so
+-- a read failed in a look ahead exactly where it says so, and only one did
 abbrev pub TellsAhead : SourceView → SourceView → Ahead → Type 0
-TellsAhead old new (Whole head) = new.failed ≡ old.failed
-TellsAhead old new Bad = new.failed ≡ old.failed
-TellsAhead old new Nothing = new.failed ≡ old.failed
-TellsAhead old new Cut = new.failed ≡ old.failed
-TellsAhead old new Fault = new.failed ≡ fault_told old.failed
+TellsAhead old new (Whole head) = new.failures ≡ old.failures
+TellsAhead old new Bad = new.failures ≡ old.failures
+TellsAhead old new Nothing = new.failures ≡ old.failures
+TellsAhead old new Cut = new.failures ≡ old.failures
+TellsAhead old new Fault = new.failures ≡ one_more_failure old.failures
 
 -- What was found of the message with this number in the bytes that were held and those that came, and what is noted of
 -- it for its reply. These bytes are no more than a head and a body may have, 16,384 bytes and 1,048,576.

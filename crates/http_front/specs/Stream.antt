@@ -5,7 +5,7 @@ use Rattle.arr_core.specs.declared.refusal.Refusal.{Refusal}
 use Rattle.arr_core.specs.declared.refusal.Refusal.TheVariants.{BadHead, NoMemory}
 use Rattle.arr_core.specs.Refusals.{number_of}
 use Rattle.httparse.specs.Grammar.{RequestHead, print_request, ReadsRequest}
-use Rattle.stream_face.specs.Faults.{fault_told}
+use Rattle.stream_face.specs.Faults.{one_more_failure}
 use Rattle.stream_face.specs.Views.{SourceView}
 use Rattle.http_front.specs.Limits.{max_head, max_head_fields, max_messages}
 use Rattle.http_front.specs.Head.{asked_by, framing, is_last, is_bare}
@@ -117,9 +117,9 @@ Finds n known left future ReadFault last bare = HasNoMessage known × (last ≡ 
 Finds n known left future (Message pairs) last bare = FindsItem n known left future (Message pairs) last bare
 Finds n known left future (Refused code) last bare = FindsItem n known left future (Refused code) last bare
 
--- a read failed in a look for the next message exactly where it says so
+-- a read failed in a look for the next message exactly where it says so, and only one did
 abbrev pub TellsNext : SourceView → SourceView → Next → Type 0
-TellsNext old new ReadFault = new.failed ≡ fault_told old.failed
-TellsNext old new Ended = new.failed ≡ old.failed
-TellsNext old new (Message pairs) = new.failed ≡ old.failed
-TellsNext old new (Refused code) = new.failed ≡ old.failed
+TellsNext old new ReadFault = new.failures ≡ one_more_failure old.failures
+TellsNext old new Ended = new.failures ≡ old.failures
+TellsNext old new (Message pairs) = new.failures ≡ old.failures
+TellsNext old new (Refused code) = new.failures ≡ old.failures

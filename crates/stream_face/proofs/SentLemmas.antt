@@ -5,7 +5,7 @@ use Rattle.std.proofs.KnownBytes.{Appends-trans}
 use Rattle.std.proofs.Math.Seq.{take-append-add}
 use Rattle.std.specs.Io.KnownBytes.{Appends}
 use Rattle.stream_face.specs.Views.{SinkView}
-use Rattle.stream_face.specs.Faults.{fault_told, told_of_count, AppendsPrefix, Sent}
+use Rattle.stream_face.specs.Faults.{one_more_failure, told_of_count, AppendsPrefix, Sent}
 use lib.Seq.{take-add}
 
 -- one write more
@@ -30,9 +30,9 @@ pub Sent-after : (a b c : SinkView) (ok : Bool) (text next : List ℕ) → Sent 
     → Sent a c ok (text ++ next)
 Sent-after a b c true text next (x, e) (y, d) = (Appends-trans a.contents b.contents c.contents text next x y, d ∙ e)
 Sent-after a b c false text next (x, e) (y, d) =
-    (prefix_after a.contents b.contents c.contents text next x y, d ∙ ap fault_told e)
+    (prefix_after a.contents b.contents c.contents text next x y, d ∙ ap one_more_failure e)
 
--- to take some is no fault
-pub some_is_no_fault : (n : ℕ) (bytes : List ℕ) (old : Option Bool) → (n ≡ 0 → ⊥) → told_of_count n bytes old ≡ old
+-- to take some is no failure
+pub some_is_no_fault : (n : ℕ) (bytes : List ℕ) (old : Option ℕ) → (n ≡ 0 → ⊥) → told_of_count n bytes old ≡ old
 some_is_no_fault zero bytes old some = absurd (some refl)
 some_is_no_fault (suc n) bytes old some = refl

@@ -7,7 +7,7 @@ abbrev pub invariant-reading : goal.invariant-reading
 invariant-reading g l =
     ((came : List ℕ) × Consumes (g.S.Source.view l.initial.source).remaining (g.S.Source.view l.source).remaining came
     × (l.buffer ≡ l.initial.buffer ++ came))
-    × ((g.S.Source.view l.source).failed ≡ (g.S.Source.view l.initial.source).failed)
+    × ((g.S.Source.view l.source).failures ≡ (g.S.Source.view l.initial.source).failures)
     × (l.seen ≤ length l.buffer) × HasNoRequest (take l.seen l.buffer)
 
 abbrev pub decreases-reading : goal.decreases-reading

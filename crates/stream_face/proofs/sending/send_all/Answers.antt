@@ -1,4 +1,4 @@
--- One more write sends its bytes behind those that went out before, and no fault is told.
+-- One more write sends its bytes behind those that went out before, and no failure is told.
 use Rattle.std.proofs.Common.{◌∙◌, arith}
 use Rattle.stream_face.proofs.SentLemmas.{sent_more, some_is_no_fault}
 use Rattle.stream_face.proofs.sending.send_all.Goals as goal

@@ -6,7 +6,7 @@ abbrev pub invariant-sending : goal.invariant-sending
 invariant-sending g l =
     (l.sent ≤ length l.bytes)
     × Appends (g.K.Sink.view l.initial.sink).contents (g.K.Sink.view l.sink).contents (take l.sent l.bytes)
-    × ((g.K.Sink.view l.sink).failed ≡ (g.K.Sink.view l.initial.sink).failed)
+    × ((g.K.Sink.view l.sink).failures ≡ (g.K.Sink.view l.initial.sink).failures)
 
 abbrev pub decreases-sending : goal.decreases-sending
 decreases-sending g l = length l.bytes - l.sent
