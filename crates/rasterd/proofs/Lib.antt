@@ -1,1 +1,2 @@
+pub mod ResumingLemmas
 pub mod WordLemmas

@@ -22,12 +22,13 @@ pub fn taking_all(alloc: Global) -> PieceWriter {
 fn ending(end: ConnectionEnd, read_failed: bool, sink: &Watched<PieceWriter>) -> &'static str {
     let written = sink.inner.text().len();
     match end {
-        ConnectionEnd::WriteFault if !read_failed && sink.failed => " WriteFault",
-        ConnectionEnd::ReadFault if !sink.failed && sink.inner.flushed() < written =>
+        ConnectionEnd::WriteFault if !read_failed && sink.failures > 0 => " WriteFault",
+        ConnectionEnd::ReadFault if sink.failures == 0 && sink.inner.flushed() < written =>
             " not flushed",
-        ConnectionEnd::ReadFault if !sink.failed && read_failed => " ReadFault",
-        ConnectionEnd::Finished if !sink.failed && sink.inner.flushed() < written => " not flushed",
-        ConnectionEnd::Finished if !sink.failed && !read_failed => "",
+        ConnectionEnd::ReadFault if sink.failures == 0 && read_failed => " ReadFault",
+        ConnectionEnd::Finished if sink.failures == 0 && sink.inner.flushed() < written =>
+            " not flushed",
+        ConnectionEnd::Finished if sink.failures == 0 && !read_failed => "",
         _ => " another fault",
     }
 }
@@ -43,7 +44,7 @@ fn served(
     let mut sink = Watched::new(writer);
     let end = server.serve_connection(&mut source, &mut sink);
     let mut text = Vec::from_slice(alloc, sink.inner.text())?;
-    text.extend_from_slice(ending(end, source.failed, &sink).as_bytes())?;
+    text.extend_from_slice(ending(end, source.failures > 0, &sink).as_bytes())?;
     Ok(text)
 }
 
