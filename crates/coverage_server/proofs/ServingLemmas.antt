@@ -21,7 +21,7 @@ use Rattle.coverage_server.specs.Views.{ServerView}
 
 -- what is neither the end nor a fault was found without a fault
 pub quiet_item : (old new : SourceView) (found : Next) → TellsNext old new found → found ≢ next.Ended
-    → found ≢ next.ReadFault → new.failed ≡ old.failed
+    → found ≢ next.ReadFault → new.failures ≡ old.failures
 quiet_item old new (next.Message pairs) x a b = x
 quiet_item old new (next.Refused code) x a b = x
 quiet_item old new next.Ended x a b = absurd (a refl)

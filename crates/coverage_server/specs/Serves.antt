@@ -3,7 +3,7 @@ use Rattle.std.specs.Prelude.{◌≡◌, ℕ, List, [], ◌∷◌, ◌++◌, Opt
 use Rattle.std.specs.List.{concat}
 use Rattle.std.specs.Io.KnownBytes.{Appends, Consumes}
 use Rattle.arr_core.specs.declared.refusal.Refusal.{Refusal}
-use Rattle.stream_face.specs.Faults.{AppendsPrefix, fault_told}
+use Rattle.stream_face.specs.Faults.{AppendsPrefix, one_more_failure}
 use Rattle.stream_face.specs.Views.{SourceView, SinkView}
 use Rattle.stream_face.specs.Waiting.{IsFlushed}
 use Rattle.http_front.specs.Stream.{HasNoMessage, Item, Messages, Begins, Taken, Shows}
@@ -16,7 +16,7 @@ use Rattle.coverage_server.specs.declared.server.ConnectionEnd.{ConnectionEnd}
 use Rattle.coverage_server.specs.declared.server.ConnectionEnd.TheVariants.{Finished, ReadFault, WriteFault}
 
 -- What a reader and a writer tell before a connection and after it: the bytes that are still to come, those that went
--- out, and whether a call on them has failed.
+-- out, and how many calls on them have failed.
 pub record Ends : Type 0 where
   pub source : SourceView
   pub source_after : SourceView
@@ -28,11 +28,14 @@ abbrev pub ends_of : {R W : Type 0} → (R → SourceView) → (W → SinkView) 
 ends_of source sink reader reader' writer writer' =
     record { source = source reader; source_after = source reader'; sink = sink writer; sink_after = sink writer' }
 
--- A connection ended by a fault of the reader or of the writer exactly where one came in it, and only that one did.
+-- A connection ended by a fault of the reader or of the writer exactly where a call on it failed, and that was the only
+-- call on them that did: none that could fail was made behind it.
 abbrev pub TellsEnd : Ends → ConnectionEnd → Type 0
-TellsEnd e Finished = (e.source_after.failed ≡ e.source.failed) × (e.sink_after.failed ≡ e.sink.failed)
-TellsEnd e ReadFault = (e.source_after.failed ≡ fault_told e.source.failed) × (e.sink_after.failed ≡ e.sink.failed)
-TellsEnd e WriteFault = (e.source_after.failed ≡ e.source.failed) × (e.sink_after.failed ≡ fault_told e.sink.failed)
+TellsEnd e Finished = (e.source_after.failures ≡ e.source.failures) × (e.sink_after.failures ≡ e.sink.failures)
+TellsEnd e ReadFault =
+    (e.source_after.failures ≡ one_more_failure e.source.failures) × (e.sink_after.failures ≡ e.sink.failures)
+TellsEnd e WriteFault =
+    (e.source_after.failures ≡ e.source.failures) × (e.sink_after.failures ≡ one_more_failure e.sink.failures)
 
 -- Which messages of the reader's bytes were asked: all of the stream; those that had come whole before a read failed,
 -- none of which ended the connection; the first ones, up to the one whose reply was not written. The reader has told

@@ -2,7 +2,7 @@
 use Rattle.std.proofs.Common.{[], refl, sym, ap, ◌∙◌, subst, arith}
 use Rattle.std.specs.Prelude.{IsTrue}
 use Rattle.std.proofs.KnownBytes.{Appends-nil, Consumes-nil}
-use Rattle.stream_face.specs.Faults.{fault_told}
+use Rattle.stream_face.specs.Faults.{one_more_failure}
 use Rattle.http_front.proofs.TakenLemmas.{found_item}
 use Rattle.coverage_server.proofs.ServingLemmas.{ended, faulted, answered, unwritten, continued, roomy, quiet_item, Continues-trans, Continues-refl}
 use Rattle.coverage_server.proofs.server.Server.serve_connection.Goals as goal
@@ -46,7 +46,7 @@ returns-in-ReadFault-clause-served g c =
 
 pub returns-in-ReadFault-clause-told : goal.returns-in-ReadFault-clause-told
 returns-in-ReadFault-clause-told g c =
-    (c.in-ReadFault.ensures.told ∙ ap fault_told c.serving.invariant.read, c.serving.invariant.written)
+    (c.in-ReadFault.ensures.told ∙ ap one_more_failure c.serving.invariant.read, c.serving.invariant.written)
 
 pub returns-in-Err-clause-served : goal.returns-in-Err-clause-served
 returns-in-Err-clause-served g c =
@@ -66,7 +66,7 @@ pub returns-in-Err-clause-told : goal.returns-in-Err-clause-told
 returns-in-Err-clause-told g c =
     let inv = c.serving.invariant in (
       quiet_item (g.R.Source.view c.serving.reader) (g.R.Source.view c.next.new.source) c.next.result c.next.ensures.told c.in_default.not-Ended c.in_default.not-ReadFault ∙ inv.read,
-      c.in-Err.ensures.sent.1 ∙ ap fault_told inv.written,
+      c.in-Err.ensures.sent.1 ∙ ap one_more_failure inv.written,
     )
 
 pub returns-then-is_over-clause-served : goal.returns-then-is_over-clause-served

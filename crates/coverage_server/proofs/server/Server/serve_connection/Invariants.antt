@@ -10,8 +10,8 @@ invariant-serving g l = record {
   few : l.connection.count < 1000;
   served : Refines (λ s t. Serving (g.R.Source.view l.initial.reader) (g.R.Source.view l.reader) (g.W.Sink.view l.initial.writer)
       (g.W.Sink.view l.writer) s t l.connection.buffer l.connection.count) l.initial.self l.self;
-  read : (g.R.Source.view l.reader).failed ≡ (g.R.Source.view l.initial.reader).failed;
-  written : (g.W.Sink.view l.writer).failed ≡ (g.W.Sink.view l.initial.writer).failed;
+  read : (g.R.Source.view l.reader).failures ≡ (g.R.Source.view l.initial.reader).failures;
+  written : (g.W.Sink.view l.writer).failures ≡ (g.W.Sink.view l.initial.writer).failures;
   continues : Continues l.initial.self.coverages l.self.coverages;
 }
 
