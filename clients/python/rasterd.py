@@ -1,4 +1,4 @@
-"""A client of rasterd, over HTTP/1.1, with the standard library alone; numpy makes arrays of answers where it is there.
+r"""A client of rasterd, over HTTP/1.1, with the standard library alone; numpy makes arrays of answers where it is there.
 
     session = rasterd.Session(port=8080)
     session.insert("hill", {"y": (0, 2), "x": (0, 3)}, {"v": "i16"})
@@ -52,6 +52,10 @@ class Refused(Exception):
 
 class NotUnderstood(Exception):
     """An answer that is none of this server's."""
+
+
+# What a request raises where no answer of the server came: whether it was done is not known.
+NO_ANSWER = (OSError, http.client.HTTPException, NotUnderstood)
 
 
 def interval_list(box):
@@ -347,7 +351,7 @@ class Session:
             return answer
         except BaseException as fault:
             if answer is None and not is_gone(fault):
-                with contextlib.suppress(Refused, OSError, http.client.HTTPException):
+                with contextlib.suppress(Refused, *NO_ANSWER):
                     self.cancel(job)
             raise
 

@@ -17,7 +17,6 @@ packages python3-numpy and python3-dask, and python3-distributed for a cluster.
 import bisect
 import contextlib
 import dataclasses
-import http.client
 import itertools
 import json
 import re
@@ -87,7 +86,7 @@ def asked(part, ask, patience=PATIENCE, turn=0):
             try:
                 with session(server) as it:
                     return ask(it)
-            except (OSError, http.client.HTTPException, rasterd.NotUnderstood) as fault:
+            except rasterd.NO_ANSWER as fault:
                 why = f"no answer from {server}, which has {part}: {fault!r}"
             except rasterd.Refused as refusal:
                 if refusal.number != 20:
@@ -186,7 +185,7 @@ def coverages_of(server, name):
                 else [other for other in listed if re.fullmatch(re.escape(name) + r"(_\d+)+", other)]
             )
             described = {coverage: it.describe(coverage) for coverage in own}
-    except OSError as fault:
+    except rasterd.NO_ANSWER as fault:
         raise NoAnswer(f"no answer from {server}: which part of {name} it has is not known ({fault})") from fault
     found = {key: it for key, it in described.items() if key == name or key.count("_") - name.count("_") == len(it[0])}
     if not found:
@@ -415,7 +414,7 @@ def insert(part, fields):
         with session(server) as it:
             it.insert(part.coverage, part.domain, fields)
     except BaseException as fault:
-        is_silent = isinstance(fault, (OSError, http.client.HTTPException, rasterd.NotUnderstood))
+        is_silent = isinstance(fault, rasterd.NO_ANSWER)
         told = NoAnswer(f"no answer from {server}, which was to have {part}: {fault!r}") if is_silent else fault
         if not isinstance(fault, (rasterd.Refused, ConnectionRefusedError)):
             # taken away blindly it might be another client's of the same name
@@ -443,7 +442,7 @@ def remove(parts):
         try:
             with session(server) as it:
                 it.delete(part.coverage)
-        except (OSError, http.client.HTTPException, rasterd.NotUnderstood, rasterd.Refused) as fault:
+        except (rasterd.Refused, *rasterd.NO_ANSWER) as fault:
             if getattr(fault, "number", None) != 20:
                 left.append(f"{part} at {server} ({fault})")
     if left:

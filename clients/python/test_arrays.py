@@ -282,6 +282,29 @@ class OneServer(unittest.TestCase):
         threading.Thread(target=forward, daemon=True).start()
         return listener.getsockname()[1]
 
+    def test_an_answer_of_another_server_is_no_answer(self):
+        for said in [b"HTTP/1.1 502 Bad Gateway\r\nContent-Length: 2\r\n\r\nno", b"no HTTP\r\n\r\n"]:
+            port = self.one_that_says(said)
+            with self.subTest(said=said), self.assertRaisesRegex(
+                rasterd_parts.NoAnswer, f"no answer from 127.0.0.1:{port}: which part of terrain it has is not known"
+            ):
+                rasterd_parts.find([f"127.0.0.1:{port}"], "terrain")
+
+    def one_that_says(self, text):
+        """The port of a server that says a text to the first that asks."""
+        listener = socket.create_server(("127.0.0.1", 0))
+        self.addCleanup(listener.close)
+
+        def says():
+            with listener.accept()[0] as client:
+                said = b""
+                while b"request=" not in said:
+                    said += client.recv(65536)
+                client.sendall(text)
+
+        threading.Thread(target=says, daemon=True).start()
+        return listener.getsockname()[1]
+
     def test_coordinates_of_a_place(self):
         rasterd_xarray.to_rasterd(self.data.v, self.url)
         with tempfile.NamedTemporaryFile("w", suffix=".json") as file:

@@ -1,6 +1,7 @@
 """The client beside the server: requests, jobs, connections, and the shell."""
 
 import contextlib
+import re
 import socket
 import subprocess
 import tempfile
@@ -274,6 +275,24 @@ class Connections(OverLoopback):
                 self.assertEqual(session.list(), [])
 
 
+def read_whole(client):
+    """Reads a request with a body to its end."""
+    head, gap, body = b"", b"", b""
+    while not gap or len(body) < int(re.search(rb"Content-Length: (\d+)", head)[1]):
+        part = client.recv(65536)
+        if not part:
+            return
+        head, gap, body = (head + gap + body + part).partition(b"\r\n\r\n")
+
+
+def ok(text):
+    """A reply with a text."""
+    return b"HTTP/1.1 200 OK\r\nContent-Length: %d\r\n\r\n%s" % (len(text), text)
+
+
+BAD_GATEWAY = b"HTTP/1.1 502 Bad Gateway\r\nContent-Length: 15\r\n\r\n<html>no</html>"
+
+
 class Faults(unittest.TestCase):
     """A server of the test's own, which says of each connection what is wanted."""
 
@@ -285,7 +304,7 @@ class Faults(unittest.TestCase):
         def serve():
             for first, *others in said:
                 with contextlib.suppress(OSError), listener.accept()[0] as client:
-                    client.recv(65536)
+                    read_whole(client)
                     client.sendall(first)
                     for part in others:
                         more.wait()
@@ -296,7 +315,7 @@ class Faults(unittest.TestCase):
         return listener.getsockname()[1]
 
     def test_what_is_left_of_a_reply_is_not_that_of_the_next_request(self):
-        whole = b"HTTP/1.1 200 OK\r\nContent-Length: 4\r\n\r\nlai\n"
+        whole = ok(b"lai\n")
         for cut in [[whole[:-2]], [whole[:-2], whole[-2:]]]:
             more = threading.Event()
             with rasterd.Session(port=self.answers(cut, [whole], [whole], more=more), timeout=0.3) as session:
@@ -310,9 +329,18 @@ class Faults(unittest.TestCase):
                 self.assertEqual(session.list(), ["lai"])
 
     def test_an_answer_of_another_server(self):
-        text = b"HTTP/1.1 502 Bad Gateway\r\nContent-Length: 15\r\n\r\n<html>no</html>"
         with self.assertRaisesRegex(rasterd.NotUnderstood, "status 502"):
-            rasterd.Session(port=self.answers([text]), timeout=LONGEST).list()
+            rasterd.Session(port=self.answers([BAD_GATEWAY]), timeout=LONGEST).list()
+
+    def test_ctrl_c_stays_one_where_the_cancelling_gets_no_answer(self):
+        def stop(done, whole):
+            raise KeyboardInterrupt
+
+        for said in [BAD_GATEWAY, b"no HTTP\r\n\r\n", b"HTTP/1.1 200 OK\r\nContent-Length: 4\r\n\r\nok", b""]:
+            port = self.answers([ok(b"job 1 left 5\n")], [ok(b"left 4\n")], [said])
+            with self.subTest(said=said), self.assertRaises(KeyboardInterrupt):
+                session = rasterd.Session(port=port, timeout=LONGEST)
+                session.run("for c in (w) return max(c)", units=1, progress=stop)
 
 
 class Parts(unittest.TestCase):

@@ -1,6 +1,8 @@
 """Rasters in and out by GDAL, and the workflows of the examples beside the same by numpy."""
 
 import contextlib
+import http.client
+import importlib.machinery
 import io
 import os
 import signal
@@ -236,11 +238,60 @@ class Rasters(InAFolder):
             ("large_1_1", "y(4096:4096),x(4096:4098)", "7,8,0\n"),
         ]:
             self.assertEqual(session.query(f"for c in ({name}) return encode(c[{box}], csv)"), wanted)
-        self.loads(made(self.path("small.tif"), [cells[:10, :10]], gdal.GDT_Byte), "large", "--parts", "--replace")
+        small, geo, back = (
+            made(self.path("small.tif"), [cells[:10, :10]], gdal.GDT_Byte),
+            self.path("geo"),
+            self.path("b.tif"),
+        )
+        self.loads(small, "large", "--parts", "--replace", "--geo", geo)
         self.assertEqual(session.list(), ["large_0_0"])
+        self.gets("for c in (large_0_0) return encode(c, csv)", back, "--geo", geo)
+        self.assert_equal_rasters(small, back)
+
+    def test_cells_as_they_are_of_another_coverage_are_refused(self):
+        geo, back = self.path("geo"), self.path("back.tif")
+        source = made(self.path("a.tif"), [numpy.array([[1, 2], [3, 4]], numpy.uint8)] * 2, gdal.GDT_Byte)
+        self.loads(source, "a", "--geo", geo)
+        for name in ("b", "a_1", "a_0_1_2"):
+            self.loads(source, name)
+            said = self.refused("rasterd-get", f"for c in ({name}) return encode(c, csv)", back, "--geo", geo)
+            self.assertEqual(said, f"{geo} is of the coverage a, and the query asks for {name}\n")
+        self.gets("for c in (a) return encode(c . band2, csv)", back, "--geo", geo)
+        numpy.testing.assert_array_equal(gdal.Open(back).ReadAsArray(), [[1, 2], [3, 4]])
+        self.loads(source, "a", "--fields", "band1,other", "--replace")
+        said = self.refused("rasterd-get", "for c in (a) return encode(c[x(0:0)], csv)", back, "--geo", geo)
+        self.assertEqual(said, f"{geo} is of a coverage with the fields band1, band2, and a has band1, other\n")
+
+
+class Deleting:
+    """A session that says of each coverage that is to be deleted what is wanted."""
+
+    def __init__(self, **said):
+        self.said, self.deleted = said, []
+
+    def delete(self, name):
+        self.deleted.append(name)
+        if self.said[name]:
+            raise self.said[name]
 
 
 class Faults(InAFolder):
+    def test_each_coverage_of_a_load_that_ends_is_taken_away_or_named(self):
+        load = importlib.machinery.SourceFileLoader("rasterd_load", f"{CLIENTS}/rasterd-load").load_module()
+        gone, refused = rasterd.Refused(20, "NoSuchCoverage", 404), rasterd.Refused(91, "DiskFault", 500)
+        silent = rasterd.NotUnderstood("status 502: ''")
+        session, names = Deleting(a=gone, b=silent, c=http.client.BadStatusLine("x"), d=refused, e=None), list("abcde")
+        with contextlib.redirect_stderr(io.StringIO()) as said:
+            load.take_away(session, names)
+        self.assertEqual(session.deleted, names)
+        told = "may be there, with a part of the raster alone: delete it"
+        wanted = f"\nb {told} (status 502: '')\n\nc {told} (x)\n\nd {told} (91 DiskFault)\n"
+        self.assertEqual(said.getvalue(), wanted)
+        session = Deleting(a=None, b=KeyboardInterrupt(), c=None)
+        with contextlib.redirect_stderr(io.StringIO()) as said, self.assertRaises(KeyboardInterrupt):
+            load.take_away(session, ["a", "b", "c"])
+        self.assertEqual(said.getvalue(), f"\nb {told} (stopped)\n\nc {told} (stopped)\n")
+
     def test_what_is_told_in_one_line(self):
         source = made(self.path("a.tif"), [numpy.ones((3, 4), numpy.uint8)], gdal.GDT_Byte)
         wide = made(self.path("c.tif"), [numpy.ones((3, 4), numpy.complex64)], gdal.GDT_CFloat32)
