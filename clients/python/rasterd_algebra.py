@@ -28,6 +28,15 @@ def box_of(session, layer):
     return session.describe(layer.partition(".")[0])[0]
 
 
+def range_of(session, layer):
+    """Two numbers between which the cells of a layer lie, whatever is written meanwhile: the ends of its type, but of
+    i64, whose differences leave 64 bits, the least and the greatest cell there are now."""
+    coverage, _, field = layer.partition(".")
+    fields = session.describe(coverage)[1]
+    kind = fields.get(field) or next(iter(fields.values()))
+    return rasterd.RANGES[kind] if kind in ("u8", "i16", "i32") else ends(session, layer)
+
+
 def asked(session, query, cells):
     """The rows of the one item of an answer, each a list of tuples of fields."""
     csv = session.run(query, progress=None) if cells > MANY else session.query(query)
@@ -55,9 +64,15 @@ def table(session, points, bounds, query):
 
 def zonal(session, layer, zones, operation="sum"):
     """A mapping from each zone, the cells of `zones`, to the sum, count, mean, max or min of a layer's cells there. A
-    mean is rounded down. Zones are asked from the least to the greatest: number them without large gaps."""
+    mean is rounded down. Zones are asked from the least to the greatest: number them without large gaps.
+
+    Which zones there are is one request, and what is in them another, or several. Where the coverages are written between
+    these, zones that are new may be missing, and the others are as each request finds them. A `max` or `min` of i64 may
+    then be a number that never was there, as the least and the greatest cell are asked for first."""
     (bind, c), (of_zones, z) = expression("c", layer), expression("z", zones)
-    lowest, highest = ends(session, layer)
+    if operation not in ("sum", "mean", "count", "max", "min"):
+        raise ValueError(f"`{operation}` is none of sum, mean, count, max, min")
+    lowest, highest = range_of(session, layer) if operation in ("max", "min") else (0, 0)
     values = {
         "sum": f"add({c} * ({z} = $k))",
         "mean": f"add({c} * ({z} = $k))",
@@ -66,8 +81,6 @@ def zonal(session, layer, zones, operation="sum"):
         "max": f"max(({c} - ({lowest})) * ({z} = $k)) + ({lowest})",
         "min": f"{highest} - max(({highest} - {c}) * ({z} = $k))",
     }
-    if operation not in values:
-        raise ValueError(f"`{operation}` is none of {', '.join(values)}")
 
     def query(low, high):
         over = f"coverage t over $k zone({low}:{high}) values"
@@ -122,14 +135,16 @@ def in_parts(session, box, query):
 
 
 def stretch(session, layer):
-    """The array of a layer's cells from 0, the least, to 255, the greatest."""
+    """The array of a layer's cells from 0, the least, to 255, the greatest. These two are asked for first: what is
+    written before all cells have come is stretched by them too, and may lie outside."""
     low, high = ends(session, layer)
     return cells(session, layer, lambda c: f"({c} - ({low})) * 255 / {max(1, high - low)}")
 
 
 def histogram(session, layer, bins=256):
     """How many cells of a layer lie in each of at most so many intervals of whole numbers, as wide as each other, from
-    the least cell to the greatest: a mapping from the lowest number of each interval."""
+    the least cell to the greatest: a mapping from the lowest number of each interval. These two are asked for first:
+    cells past them that are written meanwhile count in the first or in the last interval."""
     bind, c = expression("c", layer)
     low, high = ends(session, layer)
     width = -(-(high - low + 1) // bins)

@@ -128,6 +128,42 @@ class Algebra(OverLoopback):
                 found = rasterd_algebra.zonal(self.session(), f"image.b{k}", "zone", operation)
                 self.assertEqual(found, self.by_numpy(self.bands[k].astype(int), operation))
 
+    def test_what_is_written_between_its_requests_makes_no_number_that_never_was(self):
+        """After each request of the tool all cells are others."""
+        ask = rasterd.Session.query
+        with self.session() as session:
+            session.insert("w", {"x": (0, 3)}, {"v": "i16", "zone": "u8"})
+            session.write("w", "zone", [0, 0, 1, 1])
+        for operation, cell in [("max", -5), ("min", 9)]:
+            self.session().write("w", "v", [1, 2, 3, 4])
+            session = self.session()
+
+            def query(text):
+                answer = ask(session, text)
+                self.session().fill("w", "v", cell)
+                return answer
+
+            session.query = query
+            found = rasterd_algebra.zonal(session, "w.v", "w.zone", operation)
+            self.assertEqual(found, {0: cell, 1: cell}, operation)
+
+    def test_zones_of_each_type(self):
+        for kind, cells in [
+            ("u8", [0, 255, 7, 7]),
+            ("i16", [-32768, 32767, -1, -2]),
+            ("i32", [-(2**31), 2**31 - 1, 5, 6]),
+            ("i64", [-(2**62), 2**62 - 1, 2**62 - 2, 0]),
+        ]:
+            with self.session() as session, self.subTest(kind):
+                session.insert(kind, {"x": (0, 3)}, {"v": kind})
+                session.write(kind, "v", cells)
+                session.insert(f"zone_{kind}", {"x": (0, 3)}, {"v": "i16"})
+                session.write(f"zone_{kind}", "v", [-1, -1, 1, 1])
+                found = [rasterd_algebra.zonal(session, kind, f"zone_{kind}", it) for it in ("max", "min")]
+                self.assertEqual(
+                    found, [{-1: max(cells[:2]), 1: max(cells[2:])}, {-1: min(cells[:2]), 1: min(cells[2:])}]
+                )
+
     def test_a_table_and_its_picture_where_the_template_is_refused(self):
         session, took = self.session(), []
         self.assert_refused(54, lambda: session.template("ZonalSum", "image.b0", second="zone"))
