@@ -99,12 +99,16 @@ def dress(raster, kept):
             band.SetColorTable(table)
 
 
+def fields_of(kept):
+    """The fields of the coverage, masks last."""
+    bands = kept["bands"]
+    return [it["field"] for it in bands] + [f"{it['field']}_ok" for it in bands if it["is_masked"]]
+
+
 def restored(answer, kept):
-    """The bands as they came, of an answer with all fields of the coverage, masks last; None where it has others."""
+    """The bands as they came, of an answer with all fields of the coverage."""
     bands = kept["bands"]
     masks = [it["field"] for it in bands if it["is_masked"]]
-    if len(answer) != len(bands) + len(masks):
-        return None
     found = []
     for it, cells in zip(bands, answer):
         made = cells / it["stored_times"] if it["stored_times"] else cells
