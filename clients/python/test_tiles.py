@@ -15,6 +15,7 @@ import tempfile
 import unittest
 import urllib.error
 import urllib.request
+from xml.etree import ElementTree
 
 sys.dont_write_bytecode = True
 try:
@@ -108,6 +109,16 @@ class Tiles(unittest.TestCase):
             self.assertEqual(raster.GetGeoTransform(), (left, 20.0, 0.0, 5400000 - 4096 * 20, 0.0, -20.0))
             self.assertIn("UTM zone 32N", raster.GetProjection())
             numpy.testing.assert_array_equal(raster.ReadAsArray(), numpy.arange(200).reshape(10, 20))
+
+    def test_where_tiles_are_is_by_the_name_that_the_client_has(self):
+        own = f"127.0.0.1:{self.front}"
+        for head, host in [("Host: a&b<c\r\n", "a&b<c"), ("Host: localhost:7\r\n", "localhost:7"), ("", own)]:
+            with self.subTest(head=head), connected(self.front) as client:
+                client.sendall(f"GET /land/kind.vrt HTTP/1.0\r\n{head}\r\n".encode())
+                with client.makefile("rb") as reply:
+                    made = ElementTree.fromstring(reply.read().partition(b"\r\n\r\n")[2])
+                source = ElementTree.fromstring(made.find(".//SourceFilename").text)
+                self.assertEqual(source.find(".//ServerUrl").text, f"http://{host}/land/kind/${{z}}/${{x}}/${{y}}.png")
 
     def test_a_file_that_says_no_place_is_named(self):
         for kept in ("", "[]", '{"transform": [0, 1], "wkt": ""}', '{"transform": "abcdef", "wkt": ""}', '{"wkt": ""}'):
