@@ -5,7 +5,8 @@ usage: bench/nginx.py [SECONDS]
 
 Starts, in a fresh folder and on free ports of this machine, a server that writes, four on copies of its closed file,
 each by deploy/serve, and nginx with a certificate of its own making and a password. It compares replies over TLS, with
-and without the password, with it for another site's page, from 64 clients at once, and over a run's end; asks 200 jobs
+and without the password, with it for another site's page, from 64 clients at once, and over a run's end; asks without
+it, in many spellings, for changes of the stores; asks 200 jobs
 by four clients at once, each at the path of one server, all four at one path, and at that by address; and then counts
 for so many seconds (5) how many requests of 16 clients are answered where one server reads and where four do. Ends with
 status 1 where a reply was wrong. It needs nginx (`apt-get install nginx`), openssl and curl; `rt run` in crates/rasterd
@@ -14,6 +15,7 @@ builds the program.
 import base64
 import collections
 import concurrent.futures
+import contextlib
 import http.client
 import os
 import re
@@ -24,6 +26,7 @@ import subprocess
 import sys
 import tempfile
 import time
+import urllib.parse
 
 sys.dont_write_bytecode = True
 TOP = os.path.dirname(os.path.dirname(os.path.abspath(__file__)))
@@ -38,6 +41,8 @@ SIDE = 256
 SUM = "request=ProcessCoverages&query=for+c+in+(lai)+return+add(c)"
 LIST = "request=ListCoverages"
 PASSWORD = {"Authorization": "Basic " + base64.b64encode(b"editor:secret").decode()}
+# The paths that ask for no password.
+OPEN = ["/ows", "/1/ows", "/2/ows", "/3/ows", "/4/ows", "/job/ows"]
 
 
 class Site:
@@ -95,9 +100,8 @@ class Site:
         connected(self.front, self.nginx).close()
 
     def stop_nginx(self):
-        if self.nginx:
-            self.nginx.terminate()
-            self.nginx.wait(LONGEST)
+        self.nginx.terminate()
+        self.nginx.wait(LONGEST)
 
     def stop_servers(self):
         for script in self.running:
@@ -106,6 +110,18 @@ class Site:
         self.running = []
         if any(ends):
             raise SystemExit(f"WRONG: deploy/serve ended with {ends}")
+
+    def end(self):
+        """Ends all that runs; what has not ended in time is killed."""
+        left = [it for it in [self.nginx, *self.running] if it and it.poll() is None]
+        for process in left:
+            os.killpg(process.pid, signal.SIGTERM)
+        for process in left:
+            with contextlib.suppress(subprocess.TimeoutExpired):
+                process.wait(LONGEST)
+            if process.poll() is None:
+                os.killpg(process.pid, signal.SIGKILL)
+                process.wait()
 
     def tls(self):
         context = ssl.create_default_context(cafile=f"{self.folder}/certificate.pem")
@@ -118,10 +134,10 @@ class Site:
     def session(self, path):
         return rasterd.Session(port=self.front, path=path, tls=self.tls())
 
-    def ask(self, path, pairs, headers={}, body=None):
+    def ask(self, path, pairs, headers={}, body=None, method=None):
         """The status and the body of a reply."""
         client = self.client()
-        client.request("POST" if body else "GET", f"{path}?{pairs}" if pairs else path, body, headers)
+        client.request(method or ("POST" if body else "GET"), f"{path}?{pairs}" if pairs else path, body, headers)
         answer = client.getresponse()
         found = answer.status, answer.read().decode()
         client.close()
@@ -150,6 +166,46 @@ def fill(site):
     with concurrent.futures.ThreadPoolExecutor(16) as pool:
         for found in pool.map(lambda _: ask_again(site, "/edit/ows", LIST, PASSWORD), range(300)):
             same(found, (200, "lai\n"))
+
+
+def without_password(site):
+    """What changes a store is passed at no path that asks for no password, in whatever spelling; what reads is."""
+    change = "request=DeleteCoverage&coverage=lai"
+    spelled = [
+        "request=UpdateCoverage&coverage=lai&field=v&box=x(0:0),y(0:0)&fill=9",
+        "request=InsertCoverage&coverage=b",
+    ]
+    spelled += [change, "coverage=lai&request=DeleteCoverage", "&" + change, "Request=DeleteCoverage&coverage=lai"]
+    spelled += [
+        "request=%44eleteCoverage&coverage=lai",
+        "%72equest=DeleteCoverage&coverage=lai",
+        "request=ListCoverage",
+    ]
+    spelled += [
+        f"request=ListCoverages%26{change}",
+        f"request=ListCoverages;{change}",
+        f"request=ListCoverages {change}",
+    ]
+    text = "for c in (lai) return max(c)"
+    longest = f"request=ProcessCoverages&query={urllib.parse.quote(text.ljust(65536))}"
+    other, repeated = (400, "refused 11 UnknownRequest\n"), (400, "refused 13 RepeatedKey\n")
+    for path in OPEN:
+        for pairs in [*spelled, ""]:
+            same(site.ask(path, pairs.replace(" ", "%20"))[0], 403)
+            same(site.ask(path, "", body=pairs or " "), other)
+        for second in [change, "Request=DeleteCoverage&coverage=lai", "%72equest=DeleteCoverage&coverage=lai"]:
+            same(site.ask(path, f"{LIST}&{second}"), repeated)
+            same(site.ask(path, "", body=f"{LIST}&{second}"), repeated)
+        same(site.ask(path, LIST, body=change), other)
+        same(site.ask(path, change, body=LIST), (200, "lai\n"))
+        same(site.ask(path, f"{LIST}&text=%23&&"), (200, "lai\n"))
+        same(site.ask(path, "", body=longest), (200, "1\n"))
+        same(site.ask(path, "", body=f"{LIST}&text=".ljust(1000000, "+")), other)
+        same(site.ask(path, "", method="PUT", body=LIST)[0], 403)
+    # what nginx takes for a fragment goes on to the server
+    same(site.ask("/ows", f"{LIST}#&{change}"), repeated)
+    same(site.ask("/1/ows", f"{LIST}#&{change}"), (200, "lai\n"))
+    same(site.ask("/ows", f"{SUM}"), (200, f"{SIDE * SIDE}\n"))
 
 
 def jobs(site, paths):
@@ -217,6 +273,7 @@ def main():
                     same(found, (200, f"{SIDE * SIDE}\n"))
             same(site.ask("/other", LIST)[0], 404)
             same(site.ask("/edit/ows", LIST, PASSWORD | {"Sec-Fetch-Site": "cross-site"})[0], 403)
+            without_password(site)
             same(jobs(site, ["/1/ows", "/2/ows", "/3/ows", "/4/ows"]), {"right": 200})
             same(jobs(site, ["/2/ows"] * 4), {"right": 200})
             same(jobs(site, ["/job/ows"] * 4), {"right": 200})
@@ -227,11 +284,7 @@ def main():
             site.start_nginx(site.readers[:1])
             one = rate(site, seconds)
         finally:
-            site.stop_nginx()
-            for script in site.running:
-                os.killpg(script.pid, signal.SIGTERM)
-        for script in site.running:
-            script.wait(LONGEST)
+            site.end()
     print(
         f"sum of {SIDE} x {SIDE} cells over TLS, 16 clients: {one:.0f} requests a second by one server, {four:.0f} by four, {four / one:.2f} times"
     )
