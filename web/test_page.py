@@ -545,6 +545,22 @@ class Page(unittest.TestCase):
             self.assertTrue(self.browser.run_async(SENT, address))
             self.assertEqual("fleeting" in session.list(), is_there, site)
 
+    def test_under_another_name_nothing_is_served(self):
+        """A page of another site, whose name leads here, is of the same site for a browser (DNS rebinding)."""
+        port = self.site.front
+        for host, status in [
+            (f"127.0.0.1:{port}", 200),
+            (f"localhost:{port}", 200),
+            ("localhost", 200),
+            (f"elsewhere.example:{port}", 403),
+            ("127.0.0.1.elsewhere.example", 403),
+        ]:
+            for path in ("/", "/ows?request=ListCoverages", "/job/ows?request=ListCoverages"):
+                client = http.client.HTTPConnection("127.0.0.1", port, timeout=LONGEST)
+                client.request("GET", path, headers={"Host": host, "Sec-Fetch-Site": "same-origin"})
+                self.assertEqual(client.getresponse().status, status, (host, path))
+                client.close()
+
     def test_csv_is_saved(self):
         folder = self.enterContext(tempfile.TemporaryDirectory())
         self.browser.devtools("Browser.setDownloadBehavior", behavior="allow", downloadPath=folder)
@@ -724,6 +740,14 @@ class Deployed(unittest.TestCase):
         self.assertEqual(self.got("/other")[0], 404)
         jobs = {self.got("/job/ows?request=ListCoverages")[2] for _ in range(20)}
         self.assertEqual(len(jobs), 1)
+
+    def test_changes_need_the_password(self):
+        for path in ("/ows", "/1/ows", "/2/ows", "/3/ows", "/4/ows", "/job/ows"):
+            self.assertEqual(self.got(f"{path}?request=DeleteCoverage&coverage=one")[0], 403, path)
+            self.assertEqual(self.got(f"{path}?request=DescribeCoverage&coverage=none")[0], 404, path)
+        self.assertEqual(self.got("/edit/ows?request=DeleteCoverage&coverage=one")[0], 401)
+        for name, port in zip(["one", "two"], self.readers):
+            self.assertEqual(rasterd.Session(port=port).list(), [name])
 
     def test_pages_of_other_sites_reach_no_server(self):
         for site, is_foreign in [("cross-site", True), ("same-site", True), ("same-origin", False), ("none", False)]:
