@@ -193,7 +193,7 @@ async function timed(text, work) {
 }
 
 async function runJob(text) {
-  job = await Job.of(text);
+  job = new Job(text);
   $("cancel").hidden = $("progress").hidden = false;
   const began = performance.now();
   try {
@@ -204,8 +204,9 @@ async function runJob(text) {
       tell(`Job ${job.number}: ${units}, some ${Math.ceil(left)} s left`);
     });
   } catch (wrong) {
-    // a job that is not done would hold its place until the server's run ends
-    if (wrong.number !== 70) job.abandon();
+    // After a refusal for want of memory, disk or room the job is there, and would hold its place until the server's run
+    // ends. After any other, or where no answer came, the number may be another client's.
+    if (wrong.number >= 90) job.abandon();
     throw wrong;
   } finally {
     $("cancel").hidden = $("progress").hidden = true;
@@ -279,6 +280,7 @@ function begin() {
   beginPictures();
   $("reload").onclick = reload;
   // A page that is left in the middle of a job takes the job along: else the server keeps what it reads until its run ends.
+  // So it does where it is left while the number of the job is still on its way, if the browser lets that come.
   addEventListener("pagehide", () => job?.abandon());
   return reload();
 }

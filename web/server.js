@@ -24,9 +24,10 @@ async function sent(path, keys) {
   }
 }
 
-// A proxy answers 502 while the server behind it closes its file and opens it again: the request was not done, and is
-// sent again.
-async function request(path, keys, tries = 8) {
+// A proxy answers 502 while the server behind it closes its file and opens it again. A request that names no job may be
+// done twice, and is sent again. One that names a job is not: the job has ended with the run, and the next run numbers
+// its own jobs from 1 on, so that the number may be another client's by now.
+async function request(path, keys, tries = keys.job ? 1 : 8) {
   const [reply, text] = await sent(path, keys);
   if (reply.ok) return text;
   const [, number, name] = /^refused (\d+) (\w+)/.exec(text) ?? [];
@@ -35,6 +36,7 @@ async function request(path, keys, tries = 8) {
     await pause(250);
     return request(path, keys, tries - 1);
   }
+  if (reply.status === 502 && keys.job) throw new NoAnswer(`The server's run has ended, and job ${keys.job} with it.`);
   throw new NoAnswer(`${location.host} answers HTTP ${reply.status} in place of the server.`);
 }
 
@@ -65,39 +67,44 @@ export function itemsOf(csv) {
   return csv.replace(/\n$/, "").split("\n\n").map(item => item.split("\n").map(lineOf));
 }
 
-// A job: `run` steps it to its end and answers its text, or null where it was cancelled.
+// A job of a query: `run` steps it to its end and answers its text, or null where it was cancelled.
 export class Job {
-  constructor(number, whole) {
-    Object.assign(this, { number, whole, stopped: false });
-  }
-
-  static async of(query) {
-    const words = (await request(JOB_PATH, { request: "SubmitQuery", query })).trim().split(" ");
-    return new Job(words[1], Number(words[3]));
+  constructor(query) {
+    Object.assign(this, { query, number: undefined, stopped: false, isLeft: false });
   }
 
   keys(name) {
     return { request: name, job: this.number };
   }
 
-  // Steps of some 100 ms, so that others are served between them.
+  // Its number and its units.
+  async submit() {
+    const words = (await request(JOB_PATH, { request: "SubmitQuery", query: this.query })).trim().split(" ");
+    this.number = words[1];
+    if (this.isLeft) this.abandon();
+    return Number(words[3]);
+  }
+
+  // Steps of some 100 ms, so that others are served between them. What is left after one tells whether it was of this
+  // job: another number is that of another client's job in another run.
   async run(progress) {
-    let left = this.whole, units = 1;
+    const whole = await this.submit();
+    let left = whole, units = 1;
     while (left > 0 && !this.stopped) {
       const began = performance.now(), due = Math.max(0, left - units);
       left = Number((await request(JOB_PATH, { ...this.keys("StepJob"), units })).split(" ")[1]);
-      this.isForeign = left !== due;
-      if (this.isForeign) throw new NoAnswer(`Job ${this.number} is another one now: the server's run has ended.`);
-      progress(this.whole - left, this.whole);
+      if (left !== due) throw new NoAnswer(`Job ${this.number} is another one now: the server's run has ended.`);
+      progress(whole - left, whole);
       units = Math.max(1, Math.min(1000, Math.round(units * 100 / Math.max(5, performance.now() - began))));
     }
     if (!this.stopped) return request(JOB_PATH, this.keys("FetchJob"));
-    await request(JOB_PATH, this.keys("CancelJob"));
+    if (!this.isLeft) await request(JOB_PATH, this.keys("CancelJob"));
     return null;
   }
 
-  // For a page that is being left, which cannot wait for an answer.
+  // Cancels it without waiting for an answer, as a page that is being left has to; before it has a number, once it has.
   abandon() {
-    if (!this.isForeign) navigator.sendBeacon(JOB_PATH, new URLSearchParams(this.keys("CancelJob")));
+    this.stopped = this.isLeft = true;
+    if (this.number) navigator.sendBeacon(JOB_PATH, new URLSearchParams(this.keys("CancelJob")));
   }
 }

@@ -22,6 +22,7 @@ import tempfile
 import threading
 import time
 import unittest
+import urllib.parse
 
 sys.dont_write_bytecode = True
 try:
@@ -89,6 +90,30 @@ class Elsewhere(http.server.BaseHTTPRequestHandler):
         self.send_header("Content-Type", "text/html")
         self.end_headers()
         self.wfile.write(b"<title>elsewhere</title>")
+
+    def log_message(self, *_):
+        pass
+
+
+class Scripted(http.server.SimpleHTTPRequestHandler):
+    """The page's files, with a server behind them that has one coverage and says of jobs what is wanted."""
+
+    def __init__(self, *words):
+        super().__init__(*words, directory=f"{TOP}/web")
+
+    def do_POST(self):
+        pairs = dict(urllib.parse.parse_qsl(self.rfile.read(int(self.headers["Content-Length"])).decode()))
+        name = pairs["request"]
+        status, text = 200, {"ListCoverages": "w\n", "DescribeCoverage": "axis x 0 0\nfield v i16\n"}.get(name, "7\n")
+        if self.path == "/job/ows":
+            self.server.asked.append(name)
+            status, text = self.server.said[name].pop(0)
+            self.server.go.wait(LONGEST)
+        if status:
+            self.send_response(status)
+            self.send_header("Content-Length", str(len(text)))
+            self.end_headers()
+            self.wfile.write(text.encode())
 
     def log_message(self, *_):
         pass
@@ -682,6 +707,82 @@ class Troubles(unittest.TestCase):
         browser.click("#reload")
         told = "return document.getElementById('trouble').textContent"
         self.assertIn("No answer from", browser.wait(told))
+
+
+class JobsThatFail(unittest.TestCase):
+    """What the page asks of a job, and tells, where a step is not answered as it is to be."""
+
+    @classmethod
+    def setUpClass(cls):
+        cls.browser = Browser(*WIDE)
+        cls.addClassCleanup(cls.browser.close)
+        cls.server = http.server.ThreadingHTTPServer(("127.0.0.1", 0), Scripted)
+        cls.addClassCleanup(cls.server.server_close)
+        cls.addClassCleanup(cls.server.shutdown)
+        threading.Thread(target=cls.server.serve_forever, daemon=True).start()
+
+    def begin(self, **said):
+        """Asks a query as a job, whose requests are answered so, one after the other."""
+        self.server.asked, self.server.said, self.server.go = [], said, threading.Event()
+        self.browser.go(f"http://127.0.0.1:{self.server.server_port}/")
+        self.browser.wait("return !document.getElementById('query').hidden")
+        self.browser.run("document.getElementById('text').value = 'for c in (w) return max(c)'")
+        self.browser.click("#job")
+
+    def told(self, **said):
+        self.begin(**said)
+        self.server.go.set()
+        return self.browser.wait(
+            "const it = document.getElementById('told'); return !document.getElementById('job').disabled && it.textContent"
+        )
+
+    def test_a_number_that_may_be_another_clients_is_asked_for_once_and_not_cancelled(self):
+        submitted, bad = [(200, "job 1 left 5\n")], (502, "<html>")
+        for said, steps in [
+            ("The server's run has ended, and job 1 with it.", [bad]),
+            ("Job 1 is another one now: the server's run has ended.", [(200, "left 5\n")]),
+            ("No answer from 127.0.0.1", [(None, "")]),
+            ("answers HTTP 504 in place of the server.", [(504, "<html>")]),
+            ("refused 70 NoSuchJob", [(404, "refused 70 NoSuchJob\n")]),
+        ]:
+            with self.subTest(said):
+                self.assertIn(said, self.told(SubmitQuery=[*submitted], StepJob=steps))
+                self.assertEqual(self.server.asked, ["SubmitQuery", "StepJob"])
+        for said, fetched in [("run has ended, and job 1", bad), ("refused 61", (400, "refused 61 DivideByZero\n"))]:
+            with self.subTest(said):
+                found = self.told(
+                    SubmitQuery=[(200, "job 1 left 1\n")], StepJob=[(200, "left 0\n")], FetchJob=[fetched]
+                )
+                self.assertIn(said, found)
+                self.assertEqual(self.server.asked, ["SubmitQuery", "StepJob", "FetchJob"])
+
+    def test_a_job_that_the_device_refuses_is_cancelled(self):
+        refused = (503, "refused 90 NoMemory\n")
+        told = self.told(SubmitQuery=[(200, "job 1 left 5\n")], StepJob=[refused], CancelJob=[(200, "ok\n")])
+        self.assertIn("refused 90 NoMemory", told)
+        until(lambda: self.server.asked == ["SubmitQuery", "StepJob", "CancelJob"], "the end of a job")
+
+    def test_a_submission_is_sent_again_between_two_runs(self):
+        submitted = [(502, "<html>"), (502, "<html>"), (200, "job 3 left 1\n")]
+        told = self.told(SubmitQuery=submitted, StepJob=[(200, "left 0\n")], FetchJob=[(200, "7\n")])
+        self.assertIn("1 item, 1 cell", told)
+        self.assertEqual(self.server.asked, ["SubmitQuery"] * 3 + ["StepJob", "FetchJob"])
+
+    def test_a_job_whose_page_is_left_before_its_number_comes_is_cancelled(self):
+        self.begin(SubmitQuery=[(200, "job 1 left 5\n")], CancelJob=[(200, "ok\n")])
+        until(lambda: self.server.asked == ["SubmitQuery"], "a submission")
+        self.browser.run("window.dispatchEvent(new Event('pagehide'))")
+        self.server.go.set()
+        until(lambda: self.server.asked == ["SubmitQuery", "CancelJob"], "the end of a job")
+        self.browser.wait("return document.getElementById('told').textContent == 'The job is cancelled.'")
+
+    def test_a_job_is_cancelled_before_its_number_comes(self):
+        self.begin(SubmitQuery=[(200, "job 1 left 5\n")], CancelJob=[(200, "ok\n")])
+        until(lambda: self.server.asked == ["SubmitQuery"], "a submission")
+        self.browser.click("#cancel")
+        self.server.go.set()
+        self.browser.wait("return document.getElementById('told').textContent == 'The job is cancelled.'")
+        self.assertEqual(self.server.asked, ["SubmitQuery", "CancelJob"])
 
 
 class Deployed(unittest.TestCase):
