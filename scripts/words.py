@@ -12,7 +12,7 @@ import limits
 from homes import edge_arms, keywords, type_names
 from surface import TOP, read
 
-sys.path.insert(0, f"{TOP}/oracle")
+sys.path[:0] = [f"{TOP}/oracle", f"{TOP}/clients/python"]
 
 AXES, POINTS = "axes of a domain, iterators of a list", "points of a domain or of an iterator list"
 BRACKETS, FORMS, HEIGHT = "brackets open at once", "words `condense` and `coverage`", "height of a tree"
@@ -61,8 +61,8 @@ CLIENTS = [
     ("web/syntax.js", r"MOST_NAME = (\d+)", NAME),
     ("web/refusals.js", r"at most ([\d,]+) bytes", QUERY),
     ("web/refusals.js", r"number is above (\d+)", NUMBER),
-    ("web/refusals.js", r"higher than (\d+)", HEIGHT),
-    ("web/refusals.js", r"more than ([\d,]+) points", POINTS),
+    ("web/refusals.js", r"(?s)More than (\d+) brackets .* (\d+) words .*higher than (\d+)", BRACKETS, FORMS, HEIGHT),
+    ("web/refusals.js", r"(?s)more than (\d+) iterators,.*or a box of more than ([\d,]+) points", AXES, POINTS),
     ("web/refusals.js", r"More than ([\d,]+) cells", CELLS),
     ("web/refusals.js", r"More than (\d+) combinations", COMBINATIONS),
     ("web/refusals.js", r"(\d+) jobs are held", JOBS),
@@ -148,6 +148,15 @@ def other_edges(modules):
         yield f"{PARTS} has other edges of tiles than {edges}"
 
 
+def other_habits(script, why):
+    """Where the page and the client know other names of other languages, or other signs that begin no token here."""
+    there = script[script.index("const INSTEAD") : script.index("const FUNCTIONS")]
+    names = [f"{name} for {own}" for name, own in re.findall(r'(\w+): "(\w+)"', there)]
+    signs = re.findall(r'^  "\\?(.)": ', there, re.M)
+    yield from unlike("web/syntax.js", "other name", names, [f"{name} for {own}" for name, own in why.SAME.items()])
+    yield from unlike("web/syntax.js", "sign", signs, why.BYTES)
+
+
 def faults():
     """Where they differ."""
     modules = {name: importlib.import_module(name) for name in ("language", "machine", "meaning", "store")}
@@ -170,4 +179,5 @@ def faults():
         ),
         *uncompared(modules),
         *other_edges(modules),
+        *other_habits(script, importlib.import_module("rasterd_why")),
     ]

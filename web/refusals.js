@@ -11,10 +11,11 @@ const ADVICE = {
   30: "Here stands something that begins no word of the language.",
   31: "A number is above 9223372036854775807.",
   32: "The words spell no query.",
-  33: "Too many brackets, or a tree higher than 64: ask a simpler query, or two.",
+  33: "More than 512 brackets open at once, more than 256 words `condense` and `coverage`, or a tree "
+    + "higher than 64: ask a simpler query, or two.",
   40: "A variable that neither `for` nor `over` binds.",
   41: "A variable, or a part of {..}, that is bound already.",
-  42: "The value has no such field. Results of operations have no fields.",
+  42: "The value has no such field. The result of an operation has one field, without a name.",
   43: "The value has no such axis.",
   44: "An axis is named twice.",
   45: "Two operands have unlike domains: trim both to the same box.",
@@ -25,7 +26,8 @@ const ADVICE = {
   50: "A value with several fields stands where one must: select one, as c.field.",
   51: "The value list has another number of items than its box has points.",
   52: "A result with axes has to be encoded.",
-  53: "A lower bound above its upper one, a bound beyond 32 bits, or more than 16,777,216 points.",
+  53: "A lower bound above its upper one, a bound beyond 32 bits, more than 6 iterators, "
+    + "or a box of more than 16,777,216 points.",
   54: "Too much work: ask for a smaller box, or for fewer points in a condenser.",
   55: "More than 1,048,576 cells in the answer: ask for a part, or for every n-th cell.",
   56: "More than 64 combinations of the listed coverages.",

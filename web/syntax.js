@@ -20,6 +20,8 @@ const SIGNS = {
   "%": "There is no remainder: a - a / b * b is one.",
   "'": "The format is written as csv or \"csv\".",
   "#": "There are no comments.",
+  "^": "There is no power: c * c is one.",
+  "\"": "The string does not end.",
 };
 const FUNCTIONS = "abs, bit, count, some, all, add, avg, min, max";
 const MOST_NUMBER = 9223372036854775807n;
