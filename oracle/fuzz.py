@@ -239,7 +239,6 @@ LIST = b"GET /ows?request=ListCoverages HTTP/1.1\r\n\r\n"
 
 
 def main(program, seconds="60", seed="1"):
-    sys.set_int_max_str_digits(0)
     ends = time.monotonic() + float(seconds) if float(seconds) else float("inf")
     with tempfile.TemporaryDirectory() as folder:
         fuzz = Fuzz(os.path.abspath(program), folder, "." in seed)

@@ -83,6 +83,13 @@ def is_more(byte):
     return is_start(byte) or 48 <= byte <= 57
 
 
+def number(digits):
+    """The number that decimal digits spell. Of more than 20 it is only said that it is past 64 bits, since `int` reads
+    some thousand digits at most."""
+    digits = digits.lstrip("0") or "0"
+    return int(digits) if len(digits) <= 20 else 10**20
+
+
 def tokens(text):
     """The tokens of some bytes, each the longest that fits, or the first refusal."""
     found, at = [], 0
@@ -104,9 +111,10 @@ def tokens(text):
             end = at
             while end < len(text) and 48 <= text[end] <= 57:
                 end += 1
-            if int(text[at:end]) > MOST_NUMBER:
+            value = number(text[at:end].decode())
+            if value > MOST_NUMBER:
                 raise Refused(31)
-            found.append(Token("number", int(text[at:end])))
+            found.append(Token("number", value))
             at = end
         elif byte == 34:
             end = at + 1

@@ -5,7 +5,7 @@ import re
 import urllib.parse
 from dataclasses import dataclass, replace
 
-from language import KEYWORDS, MOST_NAME, Refused
+from language import KEYWORDS, MOST_NAME, Refused, number
 from meaning import MOST_AXES, MOST_POINTS, Coverage, Fault, answer, count, fits, points, rank, submitted
 
 MOST_COVERAGES, MOST_FIELDS, MOST_JOBS, MOST_UNITS, MOST_RADIUS = 1024, 16, 64, 1000, 8
@@ -57,11 +57,12 @@ def name_in(text):
 def signed_in(text):
     if not re.fullmatch(r"[+-]?[0-9]+", text):
         return None
-    return int(text) if -(2**63) <= int(text) < 2**63 else None
+    value = number(text.lstrip("+-")) * (-1 if text[0] == "-" else 1)
+    return value if -(2**63) <= value < 2**63 else None
 
 
 def number_in(text):
-    return int(text) if re.fullmatch(r"[0-9]+", text) and int(text) < 2**64 else None
+    return number(text) if re.fullmatch(r"[0-9]+", text) and number(text) < 2**64 else None
 
 
 def units_in(text):
@@ -414,11 +415,11 @@ def served(machine, stream):
         if any(name == b"transfer-encoding" for name, _ in fields):
             return out + reply_bytes(4, True, bare)
         if (
-            any(not re.fullmatch(rb"[0-9]+", it) or int(it) >= 2**64 for it in lengths)
-            or len(set(map(int, lengths))) > 1
+            any(number_in(it.decode(errors="replace")) is None for it in lengths)
+            or len({number_in(it.decode()) for it in lengths}) > 1
         ):
             return out + reply_bytes(1, True, bare)
-        length = int(lengths[0]) if lengths else 0
+        length = number_in(lengths[0].decode()) if lengths else 0
         if length > MOST_BODY:
             return out + reply_bytes(2, True, bare)
         body = stream[found.end() : found.end() + length]

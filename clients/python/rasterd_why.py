@@ -165,9 +165,9 @@ def misspelled(text):
     if bad is not None:
         return f"{place(text, bad)}: `{text[bad]}` begins no token" + tail(BYTES.get(text[bad]))
     for start, end in found:
-        if text[start].isdigit() and int(text[start:end]) > language.MOST_NUMBER:
+        if text[start].isdigit() and language.number(text[start:end]) > language.MOST_NUMBER:
             return f"{place(text, start)}: a number is at most {language.MOST_NUMBER}"
-        if end - start > language.MOST_NAME and re.match(r"[\w$]", text[start]):
+        if end - start > language.MOST_NAME and re.match(r"[A-Za-z_$]", text[start]):
             return f"{place(text, start)}: a name has at most {language.MOST_NAME} bytes"
     parser = Pointing(text)
     if language.too_deep(parser.listed):
