@@ -62,6 +62,14 @@ class Server:
         )
         self.started.append(self.process)
 
+    @classmethod
+    def end_all(cls):
+        """Kills those that still run."""
+        for process in cls.started:
+            with process:
+                process.kill()
+        cls.started.clear()
+
     def connect(self):
         return connected(self.port, self.process)
 
@@ -273,8 +281,9 @@ def main():
             except (AssertionError, OSError, subprocess.TimeoutExpired) as error:
                 wrong += 1
                 told = f"WRONG: {error}"
-        for process in Server.started:
-            process.kill()
+            finally:
+                # also after Ctrl-C, and a fault of the script itself
+                Server.end_all()
         print(f"{case.__name__:12} {time.monotonic() - begin:6.1f} s  {told}", flush=True)
     return 1 if wrong else 0
 
