@@ -133,13 +133,14 @@ def ended_well(words):
 
 
 def run_trials(seed):
-    """Runs the trials one after the other, and returns those that failed. What `rt ci` has left to be written to the
-    disk is written before, so that no trial waits for it."""
+    """Runs the trials one after the other, and returns those that failed and those that were not run. What `rt ci` has
+    left to be written to the disk is written before, so that no trial waits for it."""
     os.sync()
-    failed = []
+    failed, left = [], []
     for what, command, lacks in trials(seed):
         if lacks:
             print(f"{what}: not run, there is no {lacks}", flush=True)
+            left.append(what)
             continue
         words = [shutil.which(command[0]) or os.path.abspath(command[0]), *command[1:]]
         print(f"{what}:", flush=True)
@@ -148,7 +149,7 @@ def run_trials(seed):
         else:
             print(f"{what}: failed", flush=True)
             failed.append(what)
-    return failed
+    return failed, left
 
 
 def gate():
@@ -168,10 +169,10 @@ def gate():
             return status or 1
         wrong = [f"the trier of edits: {it}" for it in must_fail_groups_test.faults()]
         print(*wrong or ["the trier of edits and its control: ok"], sep="\n", flush=True)
-        faults = wrong + run_trials(str(int(sum_of(commit)[:8], 16)))
+        faults, left = run_trials(str(int(sum_of(commit)[:8], 16)))
         _, passed, failed = tried(names, builds=False)
         print(f"with these edits: {minutes()}", flush=True)
-        return closed(int(proved[1]) + passed, faults + failed)
+        return closed(int(proved[1]) + passed, wrong + faults + failed, left)
 
 
 if __name__ == "__main__":

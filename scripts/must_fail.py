@@ -132,9 +132,9 @@ def tried(names, builds):
     )
 
 
-def closed(passed, faults):
-    """Prints what failed once more, and the closing line. Returns the status."""
-    print("".join(f"{it}\n" for it in faults), end="")
+def closed(passed, faults, left=()):
+    """Prints what failed and what was not run once more, and the closing line. Returns the status."""
+    print("".join(f"{it}\n" for it in [*faults, *(f"not run: {it}" for it in left)]), end="")
     print(f"{passed} passed, {len(faults)} failed", flush=True)
     return 1 if faults else 0
 
