@@ -2,6 +2,7 @@
 
 import os
 import re
+import shutil
 import signal
 import subprocess
 import tempfile
@@ -51,13 +52,43 @@ class Package(unittest.TestCase):
             self.assertTrue(os.path.isfile(f"{self.root}/{name}"), name)
         for folder, kept in [("clients/python", "usr/bin"), ("web", "usr/share/rasterd/web")]:
             wanted = {
-                it for it in os.listdir(f"{TOP}/{folder}") if it.startswith("rasterd-") or it.endswith((".html", ".js"))
+                it
+                for it in os.listdir(f"{TOP}/{folder}")
+                if it.startswith("rasterd-") or it.endswith((".html", ".css", ".js", ".svg"))
             }
             self.assertLessEqual(wanted, set(os.listdir(f"{self.root}/{kept}")))
         listed = self.ran("dpkg-deb", "-c", self.package).stdout.splitlines()
         for line in listed:
             self.assertRegex(line, r"^[d-]rw[x-]r-[x-]r-[x-] root/root ", line)
         self.assertIn("Depends: ", self.ran("dpkg-deb", "-I", self.package).stdout)
+
+    def unmade(self, top, **variables):
+        """The status of a making that fails, which leaves nothing, neither a package nor its own folder."""
+        with tempfile.TemporaryDirectory() as folder:
+            os.mkdir(f"{folder}/own")
+            words = [f"{top}/deploy/package", PROGRAM, folder]
+            environment = {**os.environ, "TMPDIR": f"{folder}/own", **variables}
+            ended = subprocess.run(words, env=environment, capture_output=True, text=True, check=False)
+            self.assertEqual((os.listdir(folder), os.listdir(f"{folder}/own")), (["own"], []), ended.stderr)
+        return ended.returncode
+
+    def test_a_tree_that_lacks_a_part_makes_no_package(self):
+        for part in ["web", "web/page.css", "oracle/machine.py", "clients/python/rasterd_xarray.dist-info"]:
+            with self.subTest(part), tempfile.TemporaryDirectory() as top:
+                for name in ["clients", "deploy", "docs", "oracle", "web"]:
+                    shutil.copytree(f"{TOP}/{name}", f"{top}/{name}", ignore=shutil.ignore_patterns("out"))
+                shutil.copy(f"{TOP}/README.md", top)
+                (shutil.rmtree if os.path.isdir(f"{top}/{part}") else os.remove)(f"{top}/{part}")
+                self.assertNotEqual(self.unmade(top), 0)
+
+    def test_a_making_that_is_stopped_leaves_nothing(self):
+        """The first program that it calls after most is made ends it."""
+        for name, status in [("HUP", 129), ("INT", 130), ("TERM", 143)]:
+            with self.subTest(name), tempfile.TemporaryDirectory() as folder:
+                with open(f"{folder}/gzip", "w", encoding="utf-8") as file:
+                    file.write(f"#!/bin/sh\nkill -{name} $PPID\n")
+                os.chmod(f"{folder}/gzip", 0o755)
+                self.assertEqual(self.unmade(TOP, PATH=f"{folder}:{os.environ['PATH']}"), status)
 
     def test_each_tool_tells_what_it_does(self):
         for tool in ["rasterd-load", "rasterd-get", "rasterd-ask"]:
