@@ -204,8 +204,8 @@ async function runJob(text) {
       tell(`Job ${job.number}: ${units}, some ${Math.ceil(left)} s left`);
     });
   } catch (wrong) {
-    // After a refusal for want of memory, disk or room the job is there, and would hold its place until the server's run
-    // ends. After any other, or where no answer came, the number may be another client's.
+    // After a refusal for want of memory, disk or room the job is there, and would hold its place until the server's
+    // run ends. After any other, or where no answer came, the number may be another client's.
     if (wrong.number >= 90) job.abandon();
     throw wrong;
   } finally {

@@ -733,7 +733,7 @@ class JobsThatFail(unittest.TestCase):
         self.begin(**said)
         self.server.go.set()
         return self.browser.wait(
-            "const it = document.getElementById('told'); return !document.getElementById('job').disabled && it.textContent"
+            "return !document.getElementById('job').disabled && document.getElementById('told').textContent"
         )
 
     def test_a_number_that_may_be_another_clients_is_asked_for_once_and_not_cancelled(self):

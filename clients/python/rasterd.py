@@ -1,4 +1,4 @@
-r"""A client of rasterd, over HTTP/1.1, with the standard library alone; numpy makes arrays of answers where it is there.
+r"""A client of rasterd, over HTTP/1.1, with the standard library alone; numpy makes arrays of answers if it is there.
 
     session = rasterd.Session(port=8080)
     session.insert("hill", {"y": (0, 2), "x": (0, 3)}, {"v": "i16"})

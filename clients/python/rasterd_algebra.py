@@ -66,9 +66,9 @@ def zonal(session, layer, zones, operation="sum"):
     """A mapping from each zone, the cells of `zones`, to the sum, count, mean, max or min of a layer's cells there. A
     mean is rounded down. Zones are asked from the least to the greatest: number them without large gaps.
 
-    Which zones there are is one request, and what is in them another, or several. Where the coverages are written between
-    these, zones that are new may be missing, and the others are as each request finds them. A `max` or `min` of i64 may
-    then be a number that never was there, as the least and the greatest cell are asked for first."""
+    Which zones there are is one request, and what is in them another, or several. Where the coverages are written
+    between these, zones that are new may be missing, and the others are as each request finds them. A `max` or `min` of
+    i64 may then be a number that never was there, as the least and the greatest cell are asked for first."""
     (bind, c), (of_zones, z) = expression("c", layer), expression("z", zones)
     if operation not in ("sum", "mean", "count", "max", "min"):
         raise ValueError(f"`{operation}` is none of sum, mean, count, max, min")

@@ -515,7 +515,8 @@ ADVICE = {
     2: f"a body has at most {machine.MOST_BODY:,} bytes: send the cells in several updates, as Session.write does",
     3: "the path is /ows, or what a proxy makes of it",
     11: "requests are InsertCoverage, UpdateCoverage, DeleteCoverage, ListCoverages, DescribeCoverage, ProcessCoverages,"
-    " SubmitQuery, StepJob, FetchJob, CancelJob, ExpandTemplate, ProcessTemplate",
+    " SubmitQuery, StepJob, FetchJob, CancelJob, ExpandTemplate, ProcessTemplate; a proxy may let those through alone"
+    " that read",
     13: "a key is given twice, perhaps in another case of its letters",
     21: "take another name, or delete the old coverage",
     22: f"a coverage has 1 to {meaning.MOST_AXES} axes, each named once, bounds of 32 bits with the lower one first,"
