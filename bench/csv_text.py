@@ -11,7 +11,7 @@ cells do not count; the programs take turns. `rt run` in crates/bench builds the
 import os
 import sys
 
-from compiled import compiled, one_more
+from compiled import ROUNDS, compiled, one_more
 
 TOP = os.path.dirname(os.path.dirname(os.path.abspath(__file__)))
 PROGRAM = [os.environ.get("PRINTING", f"{TOP}/crates/bench/out/bench"), "csv"]
@@ -73,9 +73,8 @@ def main():
         for pattern in PATTERNS:
             if wanted and pattern not in wanted:
                 continue
-            ours, printed, loop = (
-                time / CELLS * 1e9 for time in one_more([PROGRAM, [library], [plain]], [pattern], 10)
-            )
+            commands = [[*program, pattern, ROUNDS] for program in (PROGRAM, [library], [plain])]
+            ours, printed, loop = (time / CELLS * 1e9 for time in one_more(commands, 10))
             print(
                 f"{pattern:12} {ours:10.1f} {printed:11.1f} {loop:12.1f} {ours / printed:11.2f} {ours / loop:12.2f}",
                 flush=True,

@@ -4,10 +4,11 @@
 usage: bench/jobs.py
 
 Starts the program on an empty store. One client submits a job of 200 units and steps it by one unit a request, each on
-a connection of its own, while another writes and asks a small coverage, and writes the one that the job reads, each on
-connections of its own too. Every answer is compared with what it has to be: the job's with that of its query before all
-writes. Prints how long a step took, and what the other client waited, beside the same requests without a job and beside
-the query in one request. `rt run` in crates/rasterd builds the program.
+a connection of its own, while another writes and asks a small coverage, and writes a column of the one that the job
+reads, each by one request on a connection of its own too. Every answer is compared with what it has to be: the job's
+with that of its query before all writes beside it. Prints how long a step took, and what the other client waited for
+each request, beside the same requests without a job and beside the query in one request. `rt run` in crates/rasterd
+builds the program.
 """
 import os
 import statistics
@@ -35,27 +36,36 @@ def timed(work):
 
 
 class Other(threading.Thread):
-    """A client that writes and asks a small coverage, and writes the large one, until it is told to stop."""
+    """A client that writes and asks a small coverage, and writes a column of the large one, in turns with a number each
+    until it is told to stop."""
 
-    def __init__(self, port):
+    def __init__(self, port, number):
         super().__init__()
-        self.port, self.over, self.waits, self.wrong, self.written = port, threading.Event(), [], [], 0
+        self.port, self.number, self.over = port, number, threading.Event()
+        self.waits, self.wrong, self.turns, self.written = [], [], 0, 0
 
-    def turn(self, number):
-        with rasterd.Session(port=self.port) as session:
-            session.fill("small", "v", number)
-        with rasterd.Session(port=self.port) as session:
-            if session.query("for c in (small) return max(c)") != f"{number}\n":
-                self.wrong.append(number)
-        with rasterd.Session(port=self.port) as session:
-            session.fill("large", "v", number % 1000 + 1, {"y": (0, ROWS - 1), "x": (0, 0)})
-            self.written += 1
+    def wait(self, work):
+        """Makes a request on a connection of its own, and notes how long that took."""
+        found, took = timed(lambda: one(self.port, work))
+        self.waits.append(took)
+        return found
+
+    def turn(self):
+        self.turns += 1
+        self.wait(lambda it: it.fill("small", "v", self.number, {"x": (0, 99)}))
+        if self.wait(lambda it: it.query("for c in (small) return max(c)")) != f"{self.number}\n":
+            self.wrong.append(self.number)
+        self.wait(lambda it: it.fill("large", "v", self.number, {"y": (0, ROWS - 1), "x": (0, 0)}))
+        self.written += 1
+        self.number = self.number % 30000 + 1
 
     def run(self):
-        number = 0
         while not self.over.is_set():
-            self.waits.append(timed(lambda: self.turn(number))[1] / 3)
-            number += 1
+            self.turn()
+
+    def end(self):
+        self.over.set()
+        self.join()
 
 
 def one(port, work):
@@ -75,35 +85,32 @@ def main():
             lambda it: it.write("large", "v", [(y * 31 + x * 7) % 1000 for y in range(ROWS) for x in range(COLUMNS)]),
         )
         one(port, lambda it: it.insert("small", {"x": (0, 99)}, {"v": "i16"}))
-        whole, took = timed(lambda: one(port, lambda it: it.query(QUERY)))
-        alone = Other(port)
-        alone.turn = lambda number: [one(port, lambda it: it.query("for c in (small) return max(c)")) for _ in range(3)]
+        alone = Other(port, 1)
         alone.start()
         time.sleep(1)
-        alone.over.set()
-        alone.join()
+        alone.end()
+        whole, took = timed(lambda: one(port, lambda it: it.query(QUERY)))
         number, units = one(port, lambda it: it.submit(QUERY))
-        other, steps, left = Other(port), [], units
+        other, steps, left = Other(port, alone.number), [], units
         other.start()
         while left:
             left, step = timed(lambda: one(port, lambda it: it.step(number)))
             steps.append(step)
-        other.over.set()
-        other.join()
+        other.end()
         answer, fetched = timed(lambda: one(port, lambda it: it.fetch(number)))
         present = one(port, lambda it: it.query(QUERY))
     figure("the query in one request", [took])
-    figure("a small query beside nothing", alone.waits)
+    figure(f"one of {len(alone.waits)} small requests beside nothing", alone.waits)
     figure(f"a step of one unit, of {units}", steps)
-    figure(f"one of {3 * len(other.waits)} small requests meanwhile", other.waits)
+    figure(f"one of {len(other.waits)} small requests meanwhile", other.waits)
     figure("the answer fetched", [fetched])
     wrong = [
         it
         for it, holds in [
             ("the job has another number of units", units == UNITS),
             ("the job's answer is another than the query's", answer == whole),
-            ("a small answer was wrong", not other.wrong),
-            ("a write of what the job reads was not taken", 0 < other.written and other.written == len(other.waits)),
+            ("a small answer was wrong", not alone.wrong and not other.wrong),
+            ("a write was not taken", 0 < alone.written == alone.turns and 0 < other.written == other.turns),
             ("the store is as it was at the job's submission", present != whole),
         ]
         if not holds

@@ -3,7 +3,7 @@
 
 usage: bench/kernels.py [--cells N,..] [--beside PROGRAM] [WORD..]    only the lines that have all of these words
 
-The columns have 4,096 cells, or as many as are named. The kernels are run by crates/bench, which `rt run` in its folder
+The columns have 4,096 cells, or as many as are named, which are no more. The kernels are run by crates/bench, which `rt run` in its folder
 builds, and by another build of that program, if one is named. Each line is an operation on two columns, on a column and
 the scalar 3 (scalar), or on one column (one); or a condenser of a column (fold), of a column under a condition (where),
 or of as many condensers as the column has cells, each told of one: accumulators (each), or condensers that keep what
@@ -20,7 +20,7 @@ import argparse
 import contextlib
 import os
 
-from compiled import compiled, seconds
+from compiled import ROUNDS, compiled, one_more, seconds
 
 TOP = os.path.dirname(os.path.dirname(os.path.abspath(__file__)))
 PROGRAM = [f"{TOP}/crates/bench/out/bench", "kernel"]
@@ -166,18 +166,12 @@ int main(int count, char **words) {
 """
 
 
-def one_more(programs, case):
-    """The seconds that one more round of each program takes; they take turns."""
-    many = []
-    for program in programs:
-        rounds = 100
-        while seconds(program, case, rounds) < 0.03:
-            rounds *= 2
-        many.append(rounds)
-    few = [min(seconds(program, case, 1) for _ in range(3)) for program in programs]
-    times = [[seconds(program, case, rounds) for program, rounds in zip(programs, many)] for _ in range(REPEATS)]
-    least = [min(column) for column in zip(*times)]
-    return [(time - start) / rounds for time, start, rounds in zip(least, few, many)]
+def enough(command):
+    """A number of rounds for which a command takes some time."""
+    rounds = 100
+    while seconds(command, rounds) < 0.03:
+        rounds *= 2
+    return rounds
 
 
 def asked():
@@ -218,7 +212,8 @@ def main():
     print(f"{'':33}" + "".join(f"{title:>10}" for title in titles))
     with loops(lengths) as plain:
         for case in cases(options.words, lengths):
-            ours, *rest = one_more([PROGRAM, *others, *plain[case[-1]]], case)
+            commands = [[*program, *case, ROUNDS] for program in [PROGRAM, *others, *plain[case[-1]]]]
+            ours, *rest = one_more(commands, [enough(command) for command in commands], REPEATS)
             times = "".join(f"{time * 1e6:10.3f}" for time in [ours, *rest])
             ratios = "".join(f"{ours / time:10.2f}" for time in rest)
             print(f"{' '.join(case):33}{times}{ratios}", flush=True)

@@ -4,15 +4,13 @@ into classes.
 
 usage: bench/parsing.py [the program, else crates/bench/out/bench]
 
-The program cuts the text into tokens and reads them as a query, as often as it is told; the figure is the time that one
-more reading takes. `rt run` in its folder builds it.
+The program cuts the text into tokens and reads them as a query, as often as it is told; the figure is the processor time
+that one more reading takes, the least of several; the two programs take turns. `rt run` in its folder builds it.
 """
 import os
-import subprocess
 import sys
-import time
 
-from compiled import compiled
+from compiled import ROUNDS, compiled, line_of, one_more
 
 TOP = os.path.dirname(os.path.dirname(os.path.abspath(__file__)))
 PROGRAM = sys.argv[1] if len(sys.argv) > 1 else f"{TOP}/crates/bench/out/bench"
@@ -21,23 +19,21 @@ LENGTH = 65536
 LOOP = r"""
 #include <ctype.h>
 #include <stdio.h>
+#include <stdlib.h>
 #include <string.h>
-#include <time.h>
-static double now(void) { struct timespec t; clock_gettime(CLOCK_MONOTONIC, &t); return t.tv_sec + t.tv_nsec / 1e9; }
-int main(void) {
-    static char text[70000];
-    size_t n = fread(text, 1, sizeof text, stdin);
+int main(int count, char **words) {
+    const char *text = words[count - 1];
+    size_t n = strlen(text);
     long classes[4] = {0};
-    double t = now();
-    for (int r = 0; r < 200; r++) {
+    for (long r = atol(words[2]); r > 0; r--) {
         for (size_t i = 0; i < n; i++) {
             unsigned char c = text[i];
             classes[isspace(c) ? 0 : isdigit(c) ? 1 : isalpha(c) ? 2 : 3]++;
         }
         __asm__ volatile("" : : "r"(classes) : "memory");
     }
-    printf("%.9f\n", (now() - t) / 200);
-    return classes[0] == 1;
+    printf("%ld\n", classes[0]);
+    return 0;
 }
 """
 
@@ -59,20 +55,13 @@ ROWS = [
 ]
 
 
-def seconds(text, rounds):
-    begun = time.monotonic()
-    found = subprocess.run([PROGRAM, "query", str(rounds), "syntax", text], capture_output=True, check=True).stdout
-    return time.monotonic() - begun, found.decode().strip()
-
-
 def main():
     with compiled(LOOP) as plain:
         print(f"{'a query of 64 KiB':40} {'found':10} {'ms':>8} {'MB/s':>8} {'to C':>8}")
         for name, text in ROWS:
-            few, found = seconds(text, 5)
-            many, _ = seconds(text, 105)
-            once = (many - few) / 100
-            loop = float(subprocess.run([plain], input=text.encode(), capture_output=True, check=True).stdout)
+            words = ["query", ROUNDS, "syntax", text]
+            found = line_of([PROGRAM, *words], 1)
+            once, loop = one_more([[PROGRAM, *words], [plain, *words]], [100, 1000])
             print(f"{name:40} {found:10} {once * 1e3:8.2f} {len(text) / once / 1e6:8.1f} {once / loop:8.1f}")
 
 

@@ -13,7 +13,7 @@ a pool take turns. FILE is made anew for each run, and is gone afterwards: it mu
 import os
 import sys
 
-from compiled import spent
+from compiled import ROUNDS, absent, one_more
 
 TOP = os.path.dirname(os.path.dirname(os.path.abspath(__file__)))
 PROGRAM = [f"{TOP}/crates/bench/out/bench", "store"]
@@ -30,38 +30,20 @@ ACTIONS = [
 ]
 
 
-def seconds(path, action, side, rounds, pages):
-    if os.path.exists(path):
-        os.remove(path)
-    return spent(PROGRAM + [action, str(side), str(rounds), path] + pages)
-
-
-def one_more(path, action, side, rounds, times):
-    ways = ([], [PAGES])
-    least = [[float("inf"), float("inf")] for _ in ways]
-    for _ in range(times):
-        for way, pages in zip(least, ways):
-            way[0] = min(way[0], seconds(path, action, side, 1, pages))
-            way[1] = min(way[1], seconds(path, action, side, rounds + 1, pages))
-    return [(many - few) / rounds for few, many in least]
-
-
 def main():
     if len(sys.argv) < 2:
         sys.exit(__doc__)
-    path = sys.argv[1]
-    if os.path.exists(path):
-        sys.exit(f"{path} is there already")
+    path = absent(sys.argv[1])
     times = int(sys.argv[2]) if len(sys.argv) > 2 else 9
     print(f"{'a round':8} {'blocks':>6} {'without':>14} {'with a pool':>14} {'ratio':>7}")
     for action, side, rounds in ACTIONS:
-        without, pooled = one_more(path, action, side, rounds, times)
+        plain = [*PROGRAM, action, str(side), ROUNDS, path]
+        without, pooled = one_more([plain, [*plain, PAGES]], rounds, times, path)
         blocks = (side // 64) ** 2 * 2
         print(
             f"{action:8} {blocks:6} {without * 1e6:11.1f} us {pooled * 1e6:11.1f} us {pooled / without:7.2f}",
             flush=True,
         )
-    os.remove(path)
 
 
 if __name__ == "__main__":

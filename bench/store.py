@@ -3,7 +3,7 @@
 
 usage: bench/store.py [SIDE, else 4096 [FILE for the store, else memory]]
 
-FILE is made anew for each run: it must not be there before.
+FILE is made anew for each run, and is gone afterwards: it must not be there before.
 
 The actions are those of crates/bench, which `rt run` in its folder builds: the whole grid filled with a number
 that changes in each round (fill), written with noise (values) and read and added (read), and at scattered places a
@@ -18,12 +18,12 @@ such an array, and are compiled here by cc -O2.
 import os
 import sys
 
-from compiled import figures, spent
+from compiled import ROUNDS, absent, figures, one_more
 
 TOP = os.path.dirname(os.path.dirname(os.path.abspath(__file__)))
 PROGRAM = [f"{TOP}/crates/bench/out/bench", "store"]
 SIDE = int(sys.argv[1]) if len(sys.argv) > 1 else 4096
-FILE = sys.argv[2:3]
+FILE = sys.argv[2] if len(sys.argv) > 2 else None
 # each action, the cells of a round, and how many rounds are measured
 ACTIONS = [
     ("fill", SIDE * SIDE, 60),
@@ -97,26 +97,11 @@ int main(int count, char **words) {
 """
 
 
-def seconds(action, rounds):
-    for path in FILE:
-        if os.path.exists(path):
-            os.remove(path)
-    return spent(PROGRAM + [action, str(SIDE), str(rounds)] + FILE)
-
-
-def one_more(action, rounds):
-    few = min(seconds(action, 1) for _ in range(3))
-    many = min(seconds(action, rounds + 1) for _ in range(3))
-    return (many - few) / rounds
-
-
 def main():
-    for path in FILE:
-        if os.path.exists(path):
-            sys.exit(f"{path} is there already")
+    place = [absent(FILE)] if FILE else []
     print(f"{f'{SIDE} x {SIDE} i16':16} {'a round':>12} {'cells/s':>14} {'C cells/s':>14} {'to C':>9}")
     for (action, cells, rounds), plain in zip(ACTIONS, figures(LOOPS, str(SIDE))):
-        taken = one_more(action, rounds)
+        (taken,) = one_more([[*PROGRAM, action, str(SIDE), ROUNDS, *place]], rounds, 3, FILE)
         print(f"{action:16} {taken * 1e6:9.1f} us {cells / taken:14,.0f} {cells / plain:14,.0f} {taken / plain:9.1f}")
 
 

@@ -12,14 +12,13 @@ the same runs, and are compiled here by cc -O2 with its vectors. `rt run` in cra
 import os
 import sys
 
-from compiled import compiled, one_more
+from compiled import ROUNDS, compiled, one_more
 
 TOP = os.path.dirname(os.path.dirname(os.path.abspath(__file__)))
 PROGRAM = [os.environ.get("TILES", f"{TOP}/crates/bench/out/bench"), "tile"]
 CELLS = 64 * 4096
 KINDS = ["bool", "u8", "i16", "i32", "i64"]
 PATTERNS = ["one", "runs", "twenty", "three", "noise"]
-ROUNDS = 100
 
 LOOPS = r"""
 #include <stdint.h>
@@ -141,7 +140,8 @@ def main():
                     continue
                 line = f"{kind + ' ' + pattern:12}"
                 for action in ("encode", "decode"):
-                    ours, loop = one_more([PROGRAM, [plain]], [kind, pattern, action], ROUNDS)
+                    words = [kind, pattern, action, ROUNDS]
+                    ours, loop = one_more([[*PROGRAM, *words], [plain, *words]], 100)
                     line += f" {CELLS / ours / 1e6:11.0f} {ours / loop:6.2f}"
                 print(line, flush=True)
 

@@ -156,7 +156,9 @@ def one_run(text):
     begun = time.monotonic()
     ran = subprocess.Popen([PROGRAM, "query", "1", "typed", text], stdout=subprocess.PIPE)
     found = ran.stdout.read().decode().strip()
-    _, _, used = os.wait4(ran.pid, 0)
+    _, status, used = os.wait4(ran.pid, 0)
+    if status or not found:
+        sys.exit(f"{PROGRAM} ended with {os.waitstatus_to_exitcode(status)} and wrote {found!r} for {text[:200]}")
     return time.monotonic() - begun, used.ru_maxrss / 1024, found
 
 

@@ -6,24 +6,25 @@ use crate::noise::noise;
 use anyhow::{Result, bail};
 use arr_core::Cell;
 use csv_out::csv_text;
-use std::alloc::{AllocError, Global};
+use std::alloc::Global;
 use wcps_mean::{CellList, Item};
 
 /// A cell: 7 everywhere, a number of 16 bits, one of 62 bits, or a truth value.
-fn cell(pattern: &str, place: u64) -> Cell {
-    match pattern {
+fn cell(pattern: &str, place: u64) -> Result<Cell> {
+    Ok(match pattern {
         "one" => Cell::Int(7),
+        "noise" => Cell::Int((noise(place) % 65536) as i64 - 32768),
         "wide" => Cell::Int((noise(place) >> 2) as i64 - 2_305_843_009_213_693_952),
         "bool" => Cell::Bool(noise(place) % 2 == 0),
-        _ => Cell::Int((noise(place) % 65536) as i64 - 32768),
-    }
+        _ => bail!("no pattern {pattern}"),
+    })
 }
 
 /// The item.
-fn item(alloc: Global, pattern: &str) -> Result<Item, AllocError> {
+fn item(alloc: Global, pattern: &str) -> Result<Item> {
     let mut cells = Vec::new(alloc);
     for place in 0u64..1_048_576 {
-        cells.push(cell(pattern, place))?;
+        cells.push(cell(pattern, place)?)?;
     }
     Ok(Item {
         line: 1024,

@@ -10,26 +10,8 @@ mod words;
 use anyhow::{Result, bail};
 use cells::Data;
 use std::alloc::Global;
-use wcps_text::Aggregate;
 
-/// The number of a condenser that is run so often.
-fn condensed(
-    alloc: Global,
-    op: Aggregate,
-    shape: &str,
-    data: Data,
-    len: u32,
-    rounds: u32,
-) -> Result<i64> {
-    match shape {
-        "fold" => rounds::folded(alloc, op, data, len, rounds),
-        "where" => rounds::folded_where(alloc, op, data, len, rounds),
-        "each" => rounds::added(alloc, op, data, len, rounds),
-        _ => rounds::kept(alloc, op, data, len, rounds),
-    }
-}
-
-/// The number of a kernel that is run so often.
+/// The number of a kernel or a condenser that is run so often.
 fn timed(
     alloc: Global,
     kernel: &str,
@@ -42,9 +24,10 @@ fn timed(
         "columns" => rounds::both(alloc, words::operation(kernel)?, data, len, rounds),
         "scalar" => rounds::with_scalar(alloc, words::operation(kernel)?, data, len, rounds),
         "one" => rounds::one(alloc, words::operation_on_one(kernel)?, data, len, rounds),
-        "fold" | "where" | "each" | "kept" => {
-            condensed(alloc, words::aggregate(kernel)?, shape, data, len, rounds)
-        }
+        "fold" => rounds::folded(alloc, words::aggregate(kernel)?, data, len, rounds),
+        "where" => rounds::folded_where(alloc, words::aggregate(kernel)?, data, len, rounds),
+        "each" => rounds::added(alloc, words::aggregate(kernel)?, data, len, rounds),
+        "kept" => rounds::kept(alloc, words::aggregate(kernel)?, data, len, rounds),
         _ => bail!("no shape {shape}"),
     }
 }

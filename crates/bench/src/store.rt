@@ -33,7 +33,7 @@ impl Task {
     /// What the words of it say.
     fn of(action: &str, side: &str, rounds: &str) -> Result<Task> {
         Ok(Task {
-            action: Action::of(action),
+            action: Action::of(action)?,
             side: side.parse::<u16>()?,
             rounds: rounds.parse::<u64>()?,
         })

@@ -12,27 +12,57 @@ use arr_core::FieldType;
 use file_bytes::Form;
 use run_tile::{decode_into, encode};
 use std::alloc::{AllocError, Global};
+use std::marker::Model;
 
 /// The type of a word.
-fn kind_of(word: &str) -> FieldType {
-    match word {
+fn kind_of(word: &str) -> Result<FieldType> {
+    Ok(match word {
         "bool" => FieldType::Bool,
         "u8" => FieldType::U8,
         "i16" => FieldType::I16,
         "i32" => FieldType::I32,
-        _ => FieldType::I64,
-    }
+        "i64" => FieldType::I64,
+        _ => bail!("no type {word}"),
+    })
 }
 
-/// Whether a run begins at a place of a tile: never, at each 64th place, by chance, so that runs have twenty or three
-/// cells on the average, or at each place.
-fn begins(pattern: &str, place: u64) -> bool {
-    match pattern {
-        "one" => false,
-        "runs" => place % 64 == 0,
-        "twenty" => noise(!place) % 20 == 0,
-        "three" => noise(!place) % 3 == 0,
-        _ => true,
+/// Where runs begin in a tile.
+#[derive(Clone, Copy)]
+enum Pattern {
+    /// At its first place alone.
+    One,
+    /// At each 64th place.
+    Runs,
+    /// By chance, so that runs have twenty cells on the average.
+    Twenty,
+    /// The same with three cells.
+    Three,
+    /// At each place.
+    Noise,
+}
+
+impl Pattern {
+    /// The pattern with a name.
+    fn of(word: &str) -> Result<Pattern> {
+        Ok(match word {
+            "one" => Pattern::One,
+            "runs" => Pattern::Runs,
+            "twenty" => Pattern::Twenty,
+            "three" => Pattern::Three,
+            "noise" => Pattern::Noise,
+            _ => bail!("no pattern {word}"),
+        })
+    }
+
+    /// Whether a run begins at a place that is not the first of a tile.
+    fn begins(self, place: u64) -> bool {
+        match self {
+            Pattern::One => false,
+            Pattern::Runs => place % 64 == 0,
+            Pattern::Twenty => noise(!place) % 20 == 0,
+            Pattern::Three => noise(!place) % 3 == 0,
+            Pattern::Noise => true,
+        }
     }
 }
 
@@ -57,65 +87,87 @@ fn all_fit(kind: FieldType, cells: &[i64]) -> bool
 /// How many tiles there are.
 const TILES: u64 = 64;
 
-/// The form and the bytes of the cells, no bytes where they are none of a tile.
-fn encoded(alloc: Global, kind: FieldType, cells: &[i64]) -> Result<(Form, Vec<u8>), AllocError> {
-    if cells.is_empty() || cells.len() > 4096 || !all_fit(kind, cells) {
-        return Ok((Form::Runs, Vec::new(alloc)));
+/// The cells of a tile, which may be written as those of its type: that is seen once, before anything is timed.
+#[derive(Drop)]
+struct Tile {
+    kind: FieldType,
+    cells: Vec<i64>,
+}
+
+impl Model for Tile {
+    ghost use Rattle.std.specs.Prelude.{◌≤◌, ℤ, List, length, All};
+    ghost use Rattle.arr_core.specs.Cells.{Fits};
+
+    ghost Value = { List ℤ };
+
+    ghost view = { λ t. t.cells.items };
+
+    ghost invariant = { λ t. (1 ≤ length t.cells.items) × (length t.cells.items ≤ 4096) × All (Fits t.kind) t.cells.items };
+}
+
+impl Tile {
+    /// The tile of these cells.
+    fn of(kind: FieldType, cells: Vec<i64>) -> Result<Tile> {
+        if cells.is_empty() || cells.len() > 4096 || !all_fit(kind, &cells) {
+            bail!("not the cells of a tile");
+        }
+        Ok(Tile { kind, cells })
     }
-    encode(alloc, kind, cells)
+
+    /// The form and the bytes of the tile.
+    fn encoded(&self, alloc: Global) -> Result<(Form, Vec<u8>), AllocError> {
+        encode(alloc, self.kind, &self.cells)
+    }
 }
 
 /// Encodes the tiles in each round; gives how many bytes it were.
-fn encode_all(
-    alloc: Global,
-    kind: FieldType,
-    tiles: &[Vec<i64>],
-    rounds: u32,
-) -> Result<u64, AllocError> {
+fn encode_all(alloc: Global, tiles: &[Tile], rounds: u32) -> Result<u64, AllocError> {
     let mut size: u64 = 0;
     for _ in 0..rounds {
-        for cells in tiles {
-            size = size.wrapping_add(encoded(alloc, kind, cells)?.1.len() as u64);
+        for tile in tiles {
+            size = size.wrapping_add(tile.encoded(alloc)?.1.len() as u64);
         }
     }
     Ok(size)
 }
 
-/// Decodes the tiles in each round, all into one buffer; gives how many cells it were.
-fn decode_all(
-    alloc: Global,
-    kind: FieldType,
-    tiles: &[Vec<i64>],
-    rounds: u32,
-) -> Result<u64, AllocError> {
+/// The forms and the bytes of the tiles.
+fn texts_of(alloc: Global, tiles: &[Tile]) -> Result<Vec<(Form, Vec<u8>)>> {
     let mut texts = Vec::new(alloc);
-    for cells in tiles {
-        texts.push(encoded(alloc, kind, cells)?)?;
+    for tile in tiles {
+        texts.push(tile.encoded(alloc)?)?;
     }
+    Ok(texts)
+}
+
+/// Decodes the tiles in each round, all into one buffer; gives how many cells it were.
+fn decode_all(alloc: Global, kind: FieldType, tiles: &[Tile], rounds: u32) -> Result<u64> {
+    let texts = texts_of(alloc, tiles)?;
     let mut size: u64 = 0;
     let mut again = Vec::new(alloc);
     for _ in 0..rounds {
         for (form, bytes) in &texts {
-            if let Ok(()) = decode_into(kind, 4096, *form, bytes, &mut again) {
-                size = size.wrapping_add(again.len() as u64);
+            if decode_into(kind, 4096, *form, bytes, &mut again).is_err() {
+                bail!("no tile in the bytes of one");
             }
+            size = size.wrapping_add(again.len() as u64);
         }
     }
     Ok(size)
 }
 
-/// The cells of a tile.
-fn tile(
+/// The cells of the tile with a number.
+fn cells_of(
     alloc: Global,
     kind: FieldType,
-    pattern: &str,
+    pattern: Pattern,
     number: u64,
 ) -> Result<Vec<i64>, AllocError> {
     let mut cells = Vec::new(alloc);
     let mut begin = 0;
     for index in 0u64..4096 {
         let place = number.wrapping_mul(4096).wrapping_add(index);
-        if index == 0 || begins(pattern, place) {
+        if index == 0 || pattern.begins(place) {
             begin = place;
         }
         cells.push(cell(kind, noise(begin)))?;
@@ -124,28 +176,12 @@ fn tile(
 }
 
 /// The tiles.
-fn tiles(alloc: Global, kind: FieldType, pattern: &str) -> Result<Vec<Vec<i64>>, AllocError> {
+fn tiles(alloc: Global, kind: FieldType, pattern: Pattern) -> Result<Vec<Tile>> {
     let mut tiles = Vec::new(alloc);
     for number in 0..TILES {
-        tiles.push(tile(alloc, kind, pattern, number)?)?;
+        tiles.push(Tile::of(kind, cells_of(alloc, kind, pattern, number)?)?)?;
     }
     Ok(tiles)
-}
-
-/// How many bytes or cells it were.
-fn size_of(
-    alloc: Global,
-    kind: FieldType,
-    pattern: &str,
-    action: &str,
-    rounds: u32,
-) -> Result<u64, AllocError> {
-    let tiles = tiles(alloc, kind, pattern)?;
-    if action == "encode" {
-        encode_all(alloc, kind, &tiles, rounds)
-    } else {
-        decode_all(alloc, kind, &tiles, rounds)
-    }
 }
 
 /// What the words ask for.
@@ -153,8 +189,13 @@ pub fn run(alloc: Global, words: &[String]) -> Result<String> {
     let [kind, pattern, action, rounds] = words else {
         bail!("words: tile TYPE one|runs|twenty|three|noise encode|decode ROUNDS");
     };
-    let kind = kind_of(kind.as_str());
+    let kind = kind_of(kind.as_str())?;
     let rounds = rounds.parse::<u32>()?;
-    let size = size_of(alloc, kind, pattern.as_str(), action.as_str(), rounds)?;
+    let tiles = tiles(alloc, kind, Pattern::of(pattern.as_str())?)?;
+    let size = match action.as_str() {
+        "encode" => encode_all(alloc, &tiles, rounds)?,
+        "decode" => decode_all(alloc, kind, &tiles, rounds)?,
+        _ => bail!("no action {action}"),
+    };
     Ok(format!(in alloc; "{size}")?)
 }

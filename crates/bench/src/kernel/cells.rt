@@ -1,7 +1,8 @@
 //! The cells of the columns.
 
 use crate::noise::noise;
-use std::alloc::{AllocError, Global};
+use anyhow::{Result, bail};
+use std::alloc::Global;
 use tile_kernel::{Column, MAX_PLACES};
 use wcps_mean::Outcome;
 use wcps_text::BinaryOperator;
@@ -36,10 +37,9 @@ fn left(data: Data, place: u64, last: bool) -> i64 {
     }
 }
 
-/// The cell of a right operand: never 0 as a divisor, save for the fault at the last place, and of 0 to 63 as the
-/// number of a bit.
-fn right(op: BinaryOperator, data: Data, place: u64, last: bool) -> i64 {
-    let number = noise(place | 4096);
+/// The cell of a right operand of noise: never 0 as a divisor, save for the fault at the last place, and of 0 to 63 as
+/// the number of a bit.
+fn right(op: BinaryOperator, data: Data, number: u64, last: bool) -> i64 {
     match (op, data) {
         (BinaryOperator::Bit, Data::Faults) if last => 64,
         (BinaryOperator::Divide, Data::Faults) if last => 0,
@@ -51,16 +51,17 @@ fn right(op: BinaryOperator, data: Data, place: u64, last: bool) -> i64 {
     }
 }
 
-fn column(cells: &[i64], alloc: Global) -> Result<Column, AllocError> {
+fn column(cells: &[i64], alloc: Global) -> Result<Column> {
     let mut column = Column::new(alloc)?;
-    if cells.len() <= MAX_PLACES {
-        column.write(cells);
+    if cells.len() > MAX_PLACES {
+        bail!("more cells than a tile has");
     }
+    column.write(cells);
     Ok(column)
 }
 
 /// A column of left operands.
-pub fn lefts(alloc: Global, data: Data, len: u32) -> Result<Column, AllocError> {
+pub fn lefts(alloc: Global, data: Data, len: u32) -> Result<Column> {
     let mut cells = Vec::new(alloc);
     for place in 0..len {
         cells.push(left(data, u64::from(place), place + 1 == len))?;
@@ -68,22 +69,18 @@ pub fn lefts(alloc: Global, data: Data, len: u32) -> Result<Column, AllocError> 
     column(&cells, alloc)
 }
 
-/// A column of right operands.
-pub fn rights(
-    alloc: Global,
-    op: BinaryOperator,
-    data: Data,
-    len: u32,
-) -> Result<Column, AllocError> {
+/// A column of right operands. Their noise is that of the places behind those of the left ones.
+pub fn rights(alloc: Global, op: BinaryOperator, data: Data, len: u32) -> Result<Column> {
     let mut cells = Vec::new(alloc);
     for place in 0..len {
-        cells.push(right(op, data, u64::from(place), place + 1 == len))?;
+        let number = noise(u64::from(place) + u64::from(len));
+        cells.push(right(op, data, number, place + 1 == len))?;
     }
     column(&cells, alloc)
 }
 
 /// A column of truth values: true everywhere for constant data, else noise.
-pub fn conditions(alloc: Global, data: Data, len: u32) -> Result<Column, AllocError> {
+pub fn conditions(alloc: Global, data: Data, len: u32) -> Result<Column> {
     let mut cells = Vec::new(alloc);
     for place in 0..len {
         cells.push(match data {
@@ -95,16 +92,17 @@ pub fn conditions(alloc: Global, data: Data, len: u32) -> Result<Column, AllocEr
 }
 
 /// A column that is one scalar at each place.
-pub fn scalar(alloc: Global, number: i64, len: u32) -> Result<Column, AllocError> {
+pub fn scalar(alloc: Global, number: i64, len: u32) -> Result<Column> {
     let mut column = Column::new(alloc)?;
-    if len as usize <= MAX_PLACES {
-        column.fill(len as usize, Outcome::Value(number));
+    if len as usize > MAX_PLACES {
+        bail!("more cells than a tile has");
     }
+    column.fill(len as usize, Outcome::Value(number));
     Ok(column)
 }
 
 /// The places of a column's cells, from 0 on.
-pub fn places(alloc: Global, len: u32) -> Result<Vec<u64>, AllocError> {
+pub fn places(alloc: Global, len: u32) -> Result<Vec<u64>> {
     let mut places = Vec::new(alloc);
     for place in 0..len {
         places.push(u64::from(place))?;

@@ -4,7 +4,7 @@ ghost use Rattle.std.specs.Prelude.{◌≡◌, ◌≤◌, ◌<◌, ◌^◌, leng
 ghost use Rattle.tile_kernel.specs.declared.accumulator.Accumulator.{Accumulator};
 
 use crate::kernel::cells::{Data, conditions, lefts, places, rights, scalar};
-use anyhow::Result;
+use anyhow::{Result, bail};
 use std::alloc::{AllocError, Global};
 use tile_kernel::{
     Accumulator, AllTrue, Column, Condensed, Condenser, Factors, Greatest, Least, Mean, SomeTrue,
@@ -36,15 +36,16 @@ fn operated(
     right: &Column,
     out: &mut Column,
     rounds: u32,
-) -> i64 {
+) -> Result<i64> {
+    if left.len() != right.len() {
+        bail!("columns of two lengths");
+    }
     let mut sum: i64 = 0;
     for round in 0..rounds {
-        if left.len() == right.len() {
-            operate_columns(op, left, right, out);
-        }
+        operate_columns(op, left, right, out);
         sum = sum.wrapping_add(picked(out, round));
     }
-    sum
+    Ok(sum)
 }
 
 /// An operation on two columns.
@@ -52,7 +53,7 @@ pub fn both(alloc: Global, op: BinaryOperator, data: Data, len: u32, rounds: u32
     let left = lefts(alloc, data, len)?;
     let right = rights(alloc, op, data, len)?;
     let mut out = Column::new(alloc)?;
-    Ok(operated(op, &left, &right, &mut out, rounds))
+    operated(op, &left, &right, &mut out, rounds)
 }
 
 /// An operation on a column and the scalar 3.
@@ -66,7 +67,7 @@ pub fn with_scalar(
     let left = lefts(alloc, data, len)?;
     let right = scalar(alloc, 3, len)?;
     let mut out = Column::new(alloc)?;
-    Ok(operated(op, &left, &right, &mut out, rounds))
+    operated(op, &left, &right, &mut out, rounds)
 }
 
 /// An operation on one column.
@@ -81,11 +82,11 @@ pub fn one(alloc: Global, op: UnaryOperator, data: Data, len: u32, rounds: u32) 
     Ok(sum)
 }
 
-fn fold_once(op: Aggregate, column: &Column, places: &[u64]) -> i64 {
+fn fold_once(op: Aggregate, column: &Column, places: &[u64]) -> Result<i64> {
     if places.len() != column.len() {
-        return 0;
+        bail!("places of another number");
     }
-    number(fold_column(op, column, places).finish())
+    Ok(number(fold_column(op, column, places).finish()))
 }
 
 /// A condenser of a column.
@@ -94,16 +95,21 @@ pub fn folded(alloc: Global, op: Aggregate, data: Data, len: u32, rounds: u32) -
     let places = places(alloc, len)?;
     let mut sum: i64 = 0;
     for _ in 0..rounds {
-        sum = sum.wrapping_add(fold_once(op, &column, &places));
+        sum = sum.wrapping_add(fold_once(op, &column, &places)?);
     }
     Ok(sum)
 }
 
-fn fold_once_where(op: Aggregate, condition: &Column, column: &Column, places: &[u64]) -> i64 {
+fn fold_once_where(
+    op: Aggregate,
+    condition: &Column,
+    column: &Column,
+    places: &[u64],
+) -> Result<i64> {
     if places.len() != column.len() || condition.len() != column.len() {
-        return 0;
+        bail!("columns of two lengths");
     }
-    number(fold_column_where(op, condition, column, places).finish())
+    Ok(number(fold_column_where(op, condition, column, places).finish()))
 }
 
 /// A condenser of a column under a condition.
@@ -119,7 +125,7 @@ pub fn folded_where(
     let places = places(alloc, len)?;
     let mut sum: i64 = 0;
     for _ in 0..rounds {
-        sum = sum.wrapping_add(fold_once_where(op, &condition, &column, &places));
+        sum = sum.wrapping_add(fold_once_where(op, &condition, &column, &places)?);
     }
     Ok(sum)
 }
@@ -140,6 +146,9 @@ fn are_empty(folds: &[Accumulator]) -> bool
     folds.iter().all(|a| a.running.count == 0)
 }
 
+/// How many rounds a condenser has room for.
+const MOST: u32 = 16_777_216;
+
 /// Accumulators that are told of a column's cells in each round.
 fn told(folds: &mut [Accumulator], column: &Column, rounds: u32)
     requires length { length folds.old ≡ length column.now }
@@ -156,9 +165,10 @@ fn told(folds: &mut [Accumulator], column: &Column, rounds: u32)
 pub fn added(alloc: Global, op: Aggregate, data: Data, len: u32, rounds: u32) -> Result<i64> {
     let column = lefts(alloc, data, len)?;
     let mut folds = empties(alloc, op, column.len())?;
-    if folds.len() == column.len() && rounds <= 16_777_216 && are_empty(&folds) {
-        told(folds.as_mut_slice(), &column, rounds);
+    if folds.len() != column.len() || rounds > MOST || !are_empty(&folds) {
+        bail!("no room for so many rounds");
     }
+    told(folds.as_mut_slice(), &column, rounds);
     let mut sum: i64 = 0;
     for accumulator in folds {
         sum = sum.wrapping_add(number(accumulator.finish()));
@@ -194,9 +204,10 @@ fn told_by_kind<C: Condenser>(condensers: &mut [C], column: &Column, rounds: u32
 fn added_by_kind<C: Condenser>(alloc: Global, data: Data, len: u32, rounds: u32) -> Result<i64> {
     let column = lefts(alloc, data, len)?;
     let mut condensers = none::<C>(alloc, column.len())?;
-    if rounds <= 16_777_216 {
-        told_by_kind(condensers.as_mut_slice(), &column, rounds);
+    if rounds > MOST {
+        bail!("no room for so many rounds");
     }
+    told_by_kind(condensers.as_mut_slice(), &column, rounds);
     let mut sum: i64 = 0;
     for condenser in condensers {
         sum = sum.wrapping_add(number(condenser.finish()));

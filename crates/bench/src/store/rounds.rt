@@ -2,7 +2,7 @@
 
 use crate::noise::noise;
 use crate::store::grid::{Grid, square};
-use anyhow::Result;
+use anyhow::{Result, bail};
 use arr_core::{Cell, Domain};
 use block_file::Blocks;
 use std::alloc::{AllocError, Global};
@@ -35,9 +35,9 @@ pub(crate) enum Action {
 }
 
 impl Action {
-    /// The action with a name; any other word is `put`.
-    pub(crate) fn of(word: &str) -> Action {
-        match word {
+    /// The action with a name.
+    pub(crate) fn of(word: &str) -> Result<Action> {
+        Ok(match word {
             "fill" => Action::Fill,
             "values" => Action::Values,
             "read" => Action::Read,
@@ -45,8 +45,9 @@ impl Action {
             "cell" => Action::Cell,
             "again" => Action::Again,
             "point" => Action::Point,
-            _ => Action::Put,
-        }
+            "put" => Action::Put,
+            _ => bail!("no action {word}"),
+        })
     }
 }
 
