@@ -74,11 +74,11 @@ impl Desk {
     ) -> Result<()> {
         match verb {
             "new" => self.begin(alloc, answer, NonZeroU64::MIN),
-            "starting" => match NonZeroU64::new(number(rest)) {
+            "starting" => match NonZeroU64::new(number(rest)?) {
                 Some(first) => self.begin(alloc, answer, first),
                 None => bail!("no number to start from"),
             },
-            "cancel" => self.cancel(answer, number(rest)),
+            "cancel" => self.cancel(answer, number(rest)?),
             "submit" => return self.submit(alloc, answer, coverages),
             "holders" => self.holders.say(answer),
             _ => bail!("no such call"),

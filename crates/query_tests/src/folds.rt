@@ -125,9 +125,10 @@ pub fn merged(alloc: Global, words: &str) -> Result<String> {
     let mut accumulator = Accumulator::empty(op);
     for part in parts.split(' ') {
         let more = folded_part(alloc, op, part)?;
-        if accumulator.running.count <= 10000 && more.running.count <= 10000 {
-            accumulator.merge(more);
+        if accumulator.running.count > 10000 || more.running.count > 10000 {
+            bail!("no room");
         }
+        accumulator.merge(more);
     }
     Ok(shown(alloc, accumulator.finish())?)
 }

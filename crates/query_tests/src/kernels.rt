@@ -33,14 +33,15 @@ fn one(alloc: Global, words: &str) -> Result<String> {
     column_text(alloc, &out)
 }
 
-/// Tells an accumulator of a point, as `65:Overflow`, where it has been told of few.
+/// Tells an accumulator of a point, as `65:Overflow`; of at most 1,000.
 fn tell(accumulator: &mut Accumulator, point: &str) -> Result<()> {
     let (place, word) = cut_at(point, ':');
     let place = place.parse::<u64>()?;
     let outcome = outcome(word)?;
-    if accumulator.running.count < 1000 {
-        accumulator.add(place, outcome);
+    if accumulator.running.count >= 1000 {
+        bail!("too many points");
     }
+    accumulator.add(place, outcome);
     Ok(())
 }
 

@@ -2,7 +2,7 @@
 
 use crate::answers::{say_items, say_outcome};
 use crate::words::{aggregate, binary, outcome, unary};
-use anyhow::Result;
+use anyhow::{Result, bail};
 use arr_core::Cell;
 use std::alloc::Global;
 use test_rows::{Answer, cell, cut, number};
@@ -32,12 +32,13 @@ pub fn say_operated(answer: &mut Answer, words: &str) -> Result<()> {
     Ok(())
 }
 
-/// Adds an outcome to those that a condenser goes over, of which there are few.
+/// Adds an outcome to those that a condenser goes over, of which there are at most 1,000.
 fn add(running: &mut Running, word: &str) -> Result<()> {
     let outcome = outcome(word)?;
-    if running.count < 1000 {
-        running.add(outcome);
+    if running.count >= 1000 {
+        bail!("too many outcomes");
     }
+    running.add(outcome);
     Ok(())
 }
 
@@ -72,7 +73,7 @@ fn cells(alloc: Global, list: &str) -> Result<CellList> {
 fn add_item(alloc: Global, items: &mut Vec<Item>, words: &str) -> Result<()> {
     let (line, words) = cut(words);
     let (fields, list) = cut(words);
-    let line = number(line);
+    let line = number(line)?;
     let fields = fields.parse::<u32>()?;
     let cells = cells(alloc, list)?;
     items.push(Item {

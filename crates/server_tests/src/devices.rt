@@ -87,7 +87,7 @@ impl Site {
     pub fn on_devices(&self, alloc: Global, rooms: &str) -> Result<String> {
         let (blocks, more) = cut_at(rooms, '+');
         let (least, most) = blocks.split_once("..").context("no bounds")?;
-        let (least, most, more) = (number(least), number(most), number(more));
+        let (least, most, more) = (number(least)?, number(most)?, number(more)?);
         let expected = self.on_device(alloc, room_of(least, more))?;
         for blocks in least.saturating_add(1)..most {
             let found = self.on_device(alloc, room_of(blocks, more))?;

@@ -7,7 +7,7 @@ use anyhow::{Context, Result};
 use block_file::NotOpened;
 use coverage_server::Server;
 use std::alloc::Global;
-use test_rows::{cut, number, refusal, yes};
+use test_rows::{refusal, yes};
 
 /// What the rows of storage speak to, the server that the others speak to or the disk whose opening was refused, a
 /// request that tells the server's state, sessions, and a script.
@@ -68,15 +68,6 @@ impl Site {
     pub fn open(&mut self, alloc: Global, fails: u64, lies: u64, words: &str) -> Result<String> {
         let bytes = self.storage.files.bytes(alloc, words)?;
         self.open_on(alloc, TestDisk::new(bytes, fails, lies, u64::MAX))
-    }
-
-    /// The same, the number of the call or of the read before the file.
-    pub fn open_numbered(&mut self, alloc: Global, verb: &str, words: &str) -> Result<String> {
-        let (count, words) = cut(words);
-        if verb == "open_lying" {
-            return self.open(alloc, 0, number(count), words);
-        }
-        self.open(alloc, number(count), 0, words)
     }
 
     /// Opens the server of the disk whose opening was refused, where it was.

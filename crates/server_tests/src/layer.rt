@@ -7,77 +7,12 @@ use crate::storage::disks::TestDisk;
 use crate::streams::{broken, failing, halting, limited, pieces, whole};
 use anyhow::{Context, Result, bail};
 use coverage_server::Server;
-use std::alloc::Global;
+use std::alloc::{AllocError, Global};
 use std::io::ErrorKind;
-use test_rows::{Layer, bytes, cut, number, text};
+use test_rows::{Layer, bytes, cut, index, number, text};
 
-/// What is called on the server that is open.
-const OF_SERVER: [&str; 13] = [
-    "get",
-    "query",
-    "repeat",
-    "fetched",
-    "fetching",
-    "stepping",
-    "stream",
-    "pieces",
-    "broken",
-    "limited",
-    "failing",
-    "interrupted",
-    "halting",
-];
-
-/// What opens, closes or compares, or is a whole session.
-const ON_FILES: [&str; 9] = [
-    "open",
-    "open_failing",
-    "open_lying",
-    "reopen",
-    "close",
-    "is_closed",
-    "session",
-    "session_failing",
-    "session_pieces",
-];
-
-/// Whether a word is one of these.
-fn is_one_of(word: &str, words: &[&str]) -> bool {
-    for it in words {
-        if *it == word {
-            return true;
-        }
-    }
-    false
-}
-
-/// What is written for a stream that comes as the verb says.
-fn streamed(
-    alloc: Global,
-    server: &mut Server<TestDisk>,
-    verb: &str,
-    written: &str,
-) -> Result<String> {
-    let stream = bytes(alloc, written)?;
-    let output = match verb {
-        "stream" => whole(alloc, server, &stream),
-        "pieces" => pieces(alloc, server, &stream),
-        _ => broken(alloc, server, &stream),
-    };
-    Ok(String::from_utf8(output?)?)
-}
-
-/// What is written for a stream, with a number before it, whose reader or writer fails as the verb says.
-fn faulty(alloc: Global, server: &mut Server<TestDisk>, verb: &str, words: &str) -> Result<String> {
-    let (count, written) = cut(words);
-    let count = number(count) as usize;
-    let stream = bytes(alloc, written)?;
-    let output = match verb {
-        "limited" => limited(alloc, server, count, &stream),
-        "failing" => failing(alloc, server, ErrorKind::Other, count, &stream),
-        "interrupted" => failing(alloc, server, ErrorKind::Interrupted, count, &stream),
-        _ => halting(alloc, server, count, &stream),
-    };
+/// What was written for a stream.
+fn written(output: Result<Vec<u8>, AllocError>) -> Result<String> {
     Ok(String::from_utf8(output?)?)
 }
 
@@ -88,31 +23,9 @@ fn requested(alloc: Global, server: &mut Server<TestDisk>, written: &str) -> Res
     replied(alloc, server, message.as_str())
 }
 
-/// What a call on a server gives that has a number before it.
-fn counted(
-    alloc: Global,
-    server: &mut Server<TestDisk>,
-    verb: &str,
-    words: &str,
-) -> Result<String> {
-    let (count, rest) = cut(words);
-    match verb {
-        "repeat" => repeated(alloc, server, number(count), rest),
-        "fetching" => fetching(alloc, server, number(count), rest),
-        _ => faulty(alloc, server, verb, words),
-    }
-}
-
-/// What a call on a server gives.
-fn asked(alloc: Global, server: &mut Server<TestDisk>, verb: &str, words: &str) -> Result<String> {
-    match verb {
-        "get" => requested(alloc, server, words),
-        "query" => queried(alloc, server, text(alloc, words)?),
-        "stepping" => stepping(alloc, server, words),
-        "fetched" => Ok(format!(in alloc; "{}", server.fetched())?),
-        "stream" | "pieces" | "broken" => streamed(alloc, server, verb, words),
-        _ => counted(alloc, server, verb, words),
-    }
+/// What a call gives that has nothing to give.
+fn done(alloc: Global) -> Result<String> {
+    Ok(String::from_str(alloc, "ok")?)
 }
 
 /// Whether the body of a reply is want of memory, or that the disk failed.
@@ -137,77 +50,98 @@ impl Site {
         told(alloc, server, pairs)
     }
 
-    /// The same for a request whose pairs are written as `bytes` reads them.
-    fn ask_written(&mut self, alloc: Global, written: &str) -> Result<String> {
-        self.ask(alloc, &bytes(alloc, written)?)
-    }
-
     /// Keeps the request that tells the state, and the body of its reply.
-    fn keep(&mut self, alloc: Global, words: &str) -> Result<()> {
+    fn keep(&mut self, alloc: Global, words: &str) -> Result<String> {
         let (pairs, body) = words.split_once(" is").context("no body")?;
         let pairs = String::from_str(alloc, pairs)?;
         self.probe = Some((pairs, text(alloc, body.strip_prefix(' ').unwrap_or(body))?));
-        Ok(())
+        done(alloc)
     }
 
-    /// A call that opens, closes or compares, or a whole session.
-    fn on_files(&mut self, alloc: Global, verb: &str, words: &str) -> Result<String> {
+    /// The server that is open.
+    fn opened(&mut self) -> Result<&mut Server<TestDisk>> {
+        self.server.as_mut().context("no server")
+    }
+
+    /// A call on the server that is open, or on what the rows of storage speak to.
+    fn asked(&mut self, rt: &HostRuntime, call: &str) -> Result<String> {
+        let alloc = rt.alloc();
+        let (verb, words) = cut(call);
+        let (count, rest) = cut(words);
         match verb {
-            "open" => self.open(alloc, 0, 0, words),
-            "reopen" => self.reopen(alloc),
-            "close" => self.close(alloc),
-            "is_closed" => self.is_closed(alloc, words),
-            "session" => self.session(alloc, 0, words),
-            "open_failing" | "open_lying" => self.open_numbered(alloc, verb, words),
-            _ => self.session_numbered(alloc, verb, words),
+            "get" => requested(alloc, self.opened()?, words),
+            "query" => queried(alloc, self.opened()?, text(alloc, words)?),
+            "repeat" => repeated(alloc, self.opened()?, number(count)?, rest),
+            "fetched" => Ok(format!(in alloc; "{}", self.opened()?.fetched())?),
+            "fetching" => fetching(alloc, self.opened()?, number(count)?, rest),
+            "stepping" => stepping(alloc, self.opened()?, words),
+            "stream" => written(whole(alloc, self.opened()?, &bytes(alloc, words)?)),
+            "pieces" => written(pieces(alloc, self.opened()?, &bytes(alloc, words)?)),
+            "broken" => written(broken(alloc, self.opened()?, &bytes(alloc, words)?)),
+            "limited" => written(limited(
+                alloc,
+                self.opened()?,
+                index(count)?,
+                &bytes(alloc, rest)?,
+            )),
+            "failing" => written(failing(
+                alloc,
+                self.opened()?,
+                ErrorKind::Other,
+                index(count)?,
+                &bytes(alloc, rest)?,
+            )),
+            "interrupted" => written(failing(
+                alloc,
+                self.opened()?,
+                ErrorKind::Interrupted,
+                index(count)?,
+                &bytes(alloc, rest)?,
+            )),
+            "halting" => written(halting(
+                alloc,
+                self.opened()?,
+                index(count)?,
+                &bytes(alloc, rest)?,
+            )),
+            _ => self.storage.answer(rt, call),
         }
-    }
-
-    /// A whole session with a number before its file.
-    fn session_numbered(&mut self, alloc: Global, verb: &str, words: &str) -> Result<String> {
-        let (count, words) = cut(words);
-        if verb == "session_pieces" {
-            return self.session_pieces(alloc, number(count) as usize, words);
-        }
-        self.session(alloc, number(count), words)
-    }
-
-    /// Keeps a request that tells the state, or the streams of sessions on devices.
-    fn prepare(&mut self, alloc: Global, verb: &str, words: &str) -> Result<String> {
-        match verb {
-            "writes" => self.writes = String::from_str(alloc, words)?,
-            "later" => self.later = String::from_str(alloc, words)?,
-            _ => self.keep(alloc, words)?,
-        }
-        Ok(String::from_str(alloc, "ok")?)
-    }
-
-    /// A call on the server that is open.
-    fn asked(&mut self, alloc: Global, verb: &str, words: &str) -> Result<String> {
-        let server = self.server.as_mut().context("no server")?;
-        asked(alloc, server, verb, words)
     }
 }
 
 impl Layer for Site {
+    /// Each verb stands once: here, in `asked`, or in what the rows of storage speak to, where any other word is an
+    /// error.
     fn answer(&mut self, rt: &HostRuntime, call: &str) -> Result<String> {
         let alloc = rt.alloc();
         let (verb, words) = cut(call);
-        if is_one_of(verb, &OF_SERVER) {
-            return self.asked(alloc, verb, words);
-        }
-        if is_one_of(verb, &ON_FILES) {
-            return self.on_files(alloc, verb, words);
-        }
+        let (count, rest) = cut(words);
         match verb {
-            "writes" | "later" | "state" => self.prepare(alloc, verb, words),
-            "ask" => self.ask_written(alloc, words),
-            "looks" => looks(alloc, words),
+            "open" => self.open(alloc, 0, 0, words),
+            "open_failing" => self.open(alloc, number(count)?, 0, rest),
+            "open_lying" => self.open(alloc, 0, number(count)?, rest),
+            "reopen" => self.reopen(alloc),
+            "close" => self.close(alloc),
+            "is_closed" => self.is_closed(alloc, words),
+            "session" => self.session(alloc, 0, words),
+            "session_failing" => self.session(alloc, number(count)?, rest),
+            "session_pieces" => self.session_pieces(alloc, index(count)?, rest),
             "devices" => self.on_devices(alloc, words),
+            "looks" => looks(alloc, words),
             "script" => self.begin_script(alloc, words),
             "asks" => self.add_step(alloc, words),
             "growths" => self.play(rt, words),
-            _ => self.storage.answer(rt, call),
+            "ask" => self.ask(alloc, &bytes(alloc, words)?),
+            "state" => self.keep(alloc, words),
+            "writes" => {
+                self.writes = String::from_str(alloc, words)?;
+                done(alloc)
+            }
+            "later" => {
+                self.later = String::from_str(alloc, words)?;
+                done(alloc)
+            }
+            _ => self.asked(rt, call),
         }
     }
 }

@@ -131,22 +131,22 @@ impl TileCounts {
 }
 
 /// Reads the three numbers and the job behind them.
-fn read_counts(written: &str) -> (TileCounts, &str) {
+fn read_counts(written: &str) -> Result<(TileCounts, &str)> {
     let (most, rest) = cut(written);
     let (all, rest) = cut(rest);
     let (steps, job) = cut(rest);
     let counts = TileCounts {
-        most: number(most),
-        all: number(all),
-        steps: number(steps),
+        most: number(most)?,
+        all: number(all)?,
+        steps: number(steps)?,
     };
-    (counts, job)
+    Ok((counts, job))
 }
 
 /// Steps a job by one unit, up to a thousand times, until it has none left; the number of tiles that are fetched is
 /// held to what is written before the job.
 pub fn stepping(alloc: Global, server: &mut Server<TestDisk>, written: &str) -> Result<String> {
-    let (wanted, job) = read_counts(written);
+    let (wanted, job) = read_counts(written)?;
     let pairs = format!(in alloc; "request=StepJob&job={job}&units=1")?;
     let mut counts = TileCounts {
         most: 0,

@@ -1,7 +1,7 @@
 //! Rows of several calls.
 
 use crate::disks::Site;
-use anyhow::{Result, bail};
+use anyhow::{Context, Result, bail};
 use std::alloc::Global;
 use std::ops::Range;
 use test_rows::{Answer, Layer, cut, cut_at, number};
@@ -24,11 +24,9 @@ fn join(answers: &mut Answer, given: &str) {
 }
 
 /// The numbers of a range, as `1..5`.
-fn range(written: &str) -> Range<u64> {
-    match written.split_once("..") {
-        Some((start, end)) => number(start)..number(end),
-        None => 0..0,
-    }
+fn range(written: &str) -> Result<Range<u64>> {
+    let (start, end) = written.split_once("..").context("no range")?;
+    Ok(number(start)?..number(end)?)
 }
 
 impl Scripts {
@@ -47,13 +45,11 @@ impl Scripts {
             return Ok(());
         }
         let is_again = word == "again";
-        let given = self.site.answer(rt, if is_again { call } else { written })?;
+        let mut given = self.site.answer(rt, if is_again { call } else { written })?;
         if is_again && given.as_str() == "91 DiskFault" {
-            let given = self.site.answer(rt, call)?;
-            join(answers, given.as_str());
-        } else {
-            join(answers, given.as_str());
+            given = self.site.answer(rt, call)?;
         }
+        join(answers, given.as_str());
         Ok(())
     }
 
@@ -91,7 +87,7 @@ impl Scripts {
     /// What a script gives with each number in place of `#`, as `1..5 disk test # 0 - ; disk sync`.
     fn each(&mut self, rt: &HostRuntime, answer: &mut Answer, words: &str) -> Result<()> {
         let (written, script) = cut(words);
-        for place in range(written) {
+        for place in range(written)? {
             self.numbered(rt, answer, script, place)?;
         }
         Ok(())

@@ -15,11 +15,11 @@ pub fn cut(words: &str) -> (&str, &str) {
     cut_at(words, ' ')
 }
 
-/// The number of a word, and the last one for a word that is none.
-pub fn number(word: &str) -> u64 {
+/// The number of a word that is 0 or more; an error for a word that is none.
+pub fn number(word: &str) -> Result<u64> {
     match word.parse::<u64>() {
-        Ok(number) => number,
-        Err(_) => u64::MAX,
+        Ok(number) => Ok(number),
+        Err(_) => bail!("a word is no number of 0 or more"),
     }
 }
 

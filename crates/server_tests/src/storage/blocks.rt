@@ -7,7 +7,7 @@ use block_file::{BlockFile, Blocks, CHAIN_BYTES, State, TakeFault, write_chain};
 use page_pool::PagePool;
 use std::alloc::Global;
 use std::marker::Model;
-use test_rows::{Answer, Files, cut, number};
+use test_rows::{Answer, Files, cut, index, number};
 
 /// A file of blocks with its pool, and the blocks that were taken last and are in use.
 #[derive(Drop)]
@@ -63,11 +63,12 @@ fn say_free(answer: &mut Answer, free: u32) {
 }
 
 /// The state of a header.
-fn state(word: &str) -> State {
-    match word {
+fn state(word: &str) -> Result<State> {
+    Ok(match word {
         "closed" => State::Closed,
-        _ => State::Open,
-    }
+        "open" => State::Open,
+        _ => bail!("no state {word}"),
+    })
 }
 
 impl Volume {
@@ -194,20 +195,23 @@ impl Volume {
     }
 
     /// The number of a block, which `first` stands for too.
-    fn block(&self, word: &str) -> u32 {
+    fn block(&self, word: &str) -> Result<u32> {
         match word {
-            "first" => self.first,
-            _ => word.parse::<u32>().unwrap_or(0),
+            "first" => Ok(self.first),
+            _ => Ok(word.parse::<u32>()?),
         }
     }
 
     /// Writes a header, as `closed 1 12`: its state, the first block of the metadata, and the metadata's length.
-    fn write_header(&mut self, answer: &mut Answer, words: &str) {
+    fn write_header(&mut self, answer: &mut Answer, words: &str) -> Result<()> {
         let (word, rest) = cut(words);
         let (block, length) = cut(rest);
-        let block = self.block(block);
-        let outcome = self.file.write_header(state(word), block, number(length));
+        let state = state(word)?;
+        let block = self.block(block)?;
+        let length = number(length)?;
+        let outcome = self.file.write_header(state, block, length);
         say_done(answer, outcome);
+        Ok(())
     }
 }
 
@@ -221,7 +225,7 @@ fn write(
 ) -> Result<()> {
     let (place, words) = cut(words);
     let bytes = files.bytes(alloc, words)?;
-    volume.write(answer, number(place) as usize, &bytes);
+    volume.write(answer, index(place)?, &bytes);
     Ok(())
 }
 
@@ -249,16 +253,16 @@ pub fn call(
 ) -> Result<()> {
     match verb {
         "free" => answer.count(u64::from(volume.file.free())),
-        "take" => volume.take_some(answer, number(words) as usize),
-        "leave" => volume.leave(answer, number(words) as usize),
-        "give_back" => volume.give_back(answer, number(words) as usize),
-        "hold" => volume.hold_some(answer, number(words) as usize),
-        "pages" => volume.keep_pages(answer, number(words) as usize),
-        "read" => volume.read(answer, number(words) as usize),
+        "take" => volume.take_some(answer, index(words)?),
+        "leave" => volume.leave(answer, index(words)?),
+        "give_back" => volume.give_back(answer, index(words)?),
+        "hold" => volume.hold_some(answer, index(words)?),
+        "pages" => volume.keep_pages(answer, index(words)?),
+        "read" => volume.read(answer, index(words)?),
         "write" => return write(alloc, answer, volume, files, words),
         "chain" => return chain(alloc, answer, volume, files, words),
         "first" => answer.count(u64::from(volume.first)),
-        "header" => volume.write_header(answer, words),
+        "header" => return volume.write_header(answer, words),
         _ => answer.wrong("no such call"),
     }
     Ok(())

@@ -143,7 +143,7 @@ pub fn call(
     match verb {
         "of" => return read(alloc, answer, catalogue, files, words),
         "insert" => return insert(alloc, answer, catalogue, words),
-        "insert_many" => return insert_many(alloc, answer, catalogue, number(words)),
+        "insert_many" => return insert_many(alloc, answer, catalogue, number(words)?),
         "size_with" => return size_with(alloc, answer, catalogue, words),
         "remove" => return remove(alloc, answer, catalogue, words),
         "describe" => return describe(alloc, answer, catalogue, words),

@@ -5,7 +5,7 @@ use anyhow::{Result, bail};
 use disk_face::{Disk, DiskFault, FailingDisk, FileDisk, FullFile, MemoryDisk, StdFile};
 use std::alloc::Global;
 use std::fs;
-use test_rows::{Answer, Files, cut, number};
+use test_rows::{Answer, Files, cut, index, number};
 
 /// A disk in memory of which one call fails, and one read gives each byte inverted, and that has no more than `room`
 /// bytes. So of what it reads nothing is said.
@@ -105,8 +105,8 @@ pub fn say_done(answer: &mut Answer, outcome: Result<(), DiskFault>) {
 /// So many bytes from a place on, as `2 4`.
 fn read<D: Disk>(alloc: Global, answer: &mut Answer, disk: &mut D, words: &str) -> Result<()> {
     let (at, count) = cut(words);
-    let mut bytes = vec![in alloc; 0u8; number(count) as usize]?;
-    match disk.read_at(number(at), &mut bytes) {
+    let mut bytes = vec![in alloc; 0u8; index(count)?]?;
+    match disk.read_at(number(at)?, &mut bytes) {
         Ok(()) => answer.hex(&bytes),
         Err(DiskFault) => answer.refusal(DISK_FAULT),
     }
@@ -126,7 +126,7 @@ fn write<D: Disk>(
     if bytes.is_empty() {
         bail!("no bytes");
     }
-    say_done(answer, disk.write_at(number(at), &bytes));
+    say_done(answer, disk.write_at(number(at)?, &bytes));
     Ok(())
 }
 
@@ -155,7 +155,7 @@ impl AnyDisk {
         let (fails, rest) = cut(words);
         let (lies, words) = cut(rest);
         let bytes = files.bytes(alloc, words)?;
-        let disk = TestDisk::new(bytes, number(fails), number(lies), u64::MAX);
+        let disk = TestDisk::new(bytes, number(fails)?, number(lies)?, u64::MAX);
         Ok(AnyDisk::Test(disk))
     }
 
@@ -163,14 +163,14 @@ impl AnyDisk {
     fn within(alloc: Global, files: &Files, words: &str) -> Result<AnyDisk> {
         let (room, words) = cut(words);
         let bytes = files.bytes(alloc, words)?;
-        Ok(AnyDisk::Test(TestDisk::new(bytes, 0, 0, number(room))))
+        Ok(AnyDisk::Test(TestDisk::new(bytes, 0, 0, number(room)?)))
     }
 
     /// A disk over a file in memory on a device that has room for so many bytes, as `8 lai`.
     fn full(alloc: Global, files: &Files, words: &str) -> Result<AnyDisk> {
         let (room, words) = cut(words);
         let bytes = files.bytes(alloc, words)?;
-        let room = number(room) as usize;
+        let room = index(room)?;
         Ok(AnyDisk::Full(FileDisk::new(FullFile { bytes, room })?))
     }
 
@@ -180,7 +180,8 @@ impl AnyDisk {
             "memory" => Ok(AnyDisk::Memory(MemoryDisk::new(files.bytes(alloc, words)?))),
             "within" => AnyDisk::within(alloc, files, words),
             "full" => AnyDisk::full(alloc, files, words),
-            _ => AnyDisk::test(alloc, files, words),
+            "test" => AnyDisk::test(alloc, files, words),
+            _ => bail!("no disk {kind}"),
         }
     }
 

@@ -5,7 +5,8 @@ use anyhow::Result;
 use arr_core::{Domain, Name, refusal_name};
 use std::alloc::Global;
 use test_rows::{
-    Answer, axes, cell, coordinate, cut, domain, fields, kind, number, point, say_domain, text,
+    Answer, axes, cell, coordinate, cut, domain, fields, index, kind, number, point, say_domain,
+    text,
 };
 
 const BAD_DOMAIN: u16 = 22;
@@ -100,7 +101,7 @@ fn meeting(alloc: Global, answer: &mut Answer, whole: &Domain, words: &str) -> R
 fn narrow(alloc: Global, answer: &mut Answer, domain: &Domain, words: &str) -> Result<()> {
     let (axis, bounds) = cut(words);
     let (lo, hi) = cut(bounds);
-    let axis = number(axis) as usize;
+    let axis = index(axis)?;
     let lo = coordinate(lo)?;
     let hi = coordinate(hi)?;
     if domain.can_narrow(axis, lo, hi) {
@@ -146,11 +147,11 @@ fn on_domain(
 ) -> Result<()> {
     match verb {
         "rank" => rank(alloc, answer, domain, words)?,
-        "unrank" => unrank(alloc, answer, domain, number(words))?,
-        "tile_box" => tile_box(alloc, answer, domain, number(words))?,
+        "unrank" => unrank(alloc, answer, domain, number(words)?)?,
+        "tile_box" => tile_box(alloc, answer, domain, number(words)?)?,
         "tiles_meeting" => meeting(alloc, answer, domain, words)?,
         "narrow" => narrow(alloc, answer, domain, words)?,
-        "drop_axis" => drop_axis(alloc, answer, domain, number(words) as usize)?,
+        "drop_axis" => drop_axis(alloc, answer, domain, index(words)?)?,
         "is_box" => is_box(alloc, answer, domain, words)?,
         "axis" => say_place(answer, domain.place_of(words)),
         _ => answer.wrong("no such call"),

@@ -9,7 +9,7 @@ use arr_core::{FieldType, RunList};
 use file_bytes::{Reader, push_i32, push_u32};
 use run_tile::{decode, decode_into, decode_runs, encode};
 use std::alloc::Global;
-use test_rows::{Answer, Files, coordinate, cut, cut_at, kind, number, numbers, text};
+use test_rows::{Answer, Files, coordinate, cut, cut_at, index, kind, numbers, text};
 
 fn say_number(answer: &mut Answer, number: Option<i64>) {
     match number {
@@ -27,14 +27,15 @@ fn say_bytes(answer: &mut Answer, bytes: Option<&[u8]>) {
 
 /// What a reader gives: for `u8`, `u32` and `i32` a number, for `left` how many bytes are left, and for a number so
 /// many bytes.
-fn take(answer: &mut Answer, reader: &mut Reader, word: &str) {
+fn take(answer: &mut Answer, reader: &mut Reader, word: &str) -> Result<()> {
     match word {
         "u8" => say_number(answer, reader.read_u8().map(i64::from)),
         "u32" => say_number(answer, reader.read_u32().map(i64::from)),
         "i32" => say_number(answer, reader.read_i32().map(i64::from)),
         "left" => answer.count(reader.len() as u64),
-        _ => say_bytes(answer, reader.take(number(word) as usize)),
+        _ => say_bytes(answer, reader.take(index(word)?)),
     }
+    Ok(())
 }
 
 /// What a reader of bytes gives in turn, as `u8,u32`.
@@ -42,7 +43,7 @@ fn read_numbers(answer: &mut Answer, words: &str, bytes: &[u8]) -> Result<()> {
     let mut reader = Reader::new(bytes);
     for word in words.split(',') {
         answer.comma();
-        take(answer, &mut reader, word);
+        take(answer, &mut reader, word)?;
     }
     Ok(())
 }
@@ -73,7 +74,7 @@ fn write_numbers(alloc: Global, answer: &mut Answer, words: &str, bytes: &[u8]) 
 fn decoded(alloc: Global, answer: &mut Answer, words: &str, bytes: &[u8]) -> Result<()> {
     let (form, words) = form_of(words);
     let (type_name, count) = cut_at(words, ':');
-    match decode(alloc, kind(type_name)?, number(count) as usize, form, bytes) {
+    match decode(alloc, kind(type_name)?, index(count)?, form, bytes) {
         Ok(cells) => say_list(alloc, answer, &cells),
         Err(error) => answer.refusal(unread(error)),
     }
@@ -86,7 +87,7 @@ fn decoded_into(alloc: Global, answer: &mut Answer, words: &str, bytes: &[u8]) -
     let (type_name, count) = cut_at(words, ':');
     let kind = kind(type_name)?;
     let mut cells = vec![in alloc; 3i64; 5]?;
-    match decode_into(kind, number(count) as usize, form, bytes, &mut cells) {
+    match decode_into(kind, index(count)?, form, bytes, &mut cells) {
         Ok(()) => say_list(alloc, answer, &cells),
         Err(error) => answer.refusal(unread(error)),
     }
@@ -98,7 +99,7 @@ fn decoded_runs(alloc: Global, answer: &mut Answer, words: &str, bytes: &[u8]) -
     let (form, words) = form_of(words);
     let (type_name, count) = cut_at(words, ':');
     let kind = kind(type_name)?;
-    let values = vec![in alloc; 9i64; number(count) as usize]?;
+    let values = vec![in alloc; 9i64; index(count)?]?;
     let counts = vec![in alloc; 3u32; 2]?;
     let mut runs = RunList::of(alloc, values, counts);
     match decode_runs(kind, form, bytes, &mut runs) {
@@ -121,7 +122,8 @@ fn on_bytes(
         "decode_into" => decoded_into(alloc, answer, words, bytes),
         "decode_runs" => decoded_runs(alloc, answer, words, bytes),
         "read_numbers" => read_numbers(answer, words, bytes),
-        _ => write_numbers(alloc, answer, words, bytes),
+        "write_numbers" => write_numbers(alloc, answer, words, bytes),
+        _ => bail!("no call {verb}"),
     }
 }
 

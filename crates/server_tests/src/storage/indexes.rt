@@ -102,7 +102,7 @@ fn change(
 /// Gives a tile an entry, as `0 4 1`, or none, as `0 none`.
 fn replace(alloc: Global, answer: &mut Answer, index: &mut TileIndex, words: &str) -> Result<()> {
     let (tile, rest) = cut(words);
-    let tile = number(tile);
+    let tile = number(tile)?;
     if !has_room(index, tile) {
         bail!("the last tile is left out");
     }
@@ -141,7 +141,7 @@ pub fn call(
         "replace" => return replace(alloc, answer, index, words),
         "blocks" => return blocks(alloc, answer, index),
         "index_bytes" => return bytes(alloc, answer, index),
-        "entry" => say_entry(alloc, answer, index.get(number(words))),
+        "entry" => say_entry(alloc, answer, index.get(number(words)?)),
         "tiles" => answer.count(index.as_slice().len() as u64),
         _ => answer.wrong("no such call"),
     }

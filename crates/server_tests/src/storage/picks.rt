@@ -6,43 +6,19 @@ ghost use Rattle.arr_core.specs.Tiles.{tile_boxes, tile_box};
 ghost use Rattle.raster_store.specs.Fetches.{HasTile, HasRanks};
 ghost use Rattle.raster_store.specs.Snapshots.{OnHeldFor};
 
-use crate::storage::stores::{Store, is_readable, say_cells};
+use crate::storage::stores::{Asked, Store, read_asked, say_cells, tile_at};
 use anyhow::{Context, Result};
-use arr_core::{Domain, Name};
+use arr_core::Domain;
 use raster_store::TileAt;
 use std::alloc::{AllocError, Global};
-use test_rows::{Answer, cut, number};
-
-/// A tile, by its number, of a field, by its place, of the coverage with a name that a job reads.
-#[derive(Drop)]
-pub struct Asked {
-    pub job: u64,
-    pub name: Name,
-    pub field: usize,
-    pub tile: u64,
-}
-
-/// Reads which tile it is, as `1 lai 0 0`, and what stands behind.
-pub fn read_asked(alloc: Global, words: &str) -> Result<(Asked, &str)> {
-    let (job, rest) = cut(words);
-    let (name, rest) = cut(rest);
-    let (field, rest) = cut(rest);
-    let (tile, rest) = cut(rest);
-    let asked = Asked {
-        job: number(job),
-        name: Name::new(alloc, name)?,
-        field: number(field) as usize,
-        tile: number(tile),
-    };
-    Ok((asked, rest))
-}
+use test_rows::{Answer, number};
 
 /// Ranks, as `5,0,5`; `-` for none.
 fn read_ranks(alloc: Global, words: &str) -> Result<Vec<u64>> {
     let mut ranks = Vec::new(alloc);
     if words != "-" {
         for word in words.split(',') {
-            ranks.push(number(word))?;
+            ranks.push(number(word)?)?;
         }
     }
     Ok(ranks)
@@ -65,55 +41,44 @@ fn are_below(numbers: &[u64], bound: u64) -> bool
     numbers.iter().all(|n| *n < bound)
 }
 
-/// Where the tile is, if it is there and has all of these ranks.
+/// Where a tile is, if it is there and has all of these ranks.
 fn place_of(
     alloc: Global,
     store: &Store,
-    asked: &Asked,
+    asked: Asked<'_>,
     ranks: &[u64],
 ) -> Result<Option<TileAt>, AllocError>
     ensures tile { IfOk result (λ found. IfSome found (λ at.
-        OnHeldFor asked.now.job store.now (λ v. HasTile at v.coverages))) }
+        OnHeldFor asked.entry.job store.now (λ v. HasTile at v.coverages))) }
     ensures ranks { IfOk result (λ found. IfSome found (λ at.
-        OnHeldFor asked.now.job store.now (λ v. HasRanks at ranks.now v.coverages))) }
+        OnHeldFor asked.entry.job store.now (λ v. HasRanks at ranks.now v.coverages))) }
 {
-    let Asked {
-        job,
-        name,
-        field,
-        tile,
-    } = asked;
-    if !is_readable(store, *job, name, *field, *tile) {
-        return Ok(None);
-    }
-    let Some(coverage) = store.place_at(*job, name) else {
+    let Some(at) = tile_at(store, asked) else {
         return Ok(None);
     };
-    let Some(signature) = store.signature_at(*job, name) else {
+    let Some(signature) = store.signature_at(asked.job, &asked.target.name) else {
         return Ok(None);
     };
-    if *tile >= signature.domain.tiles() {
+    if at.tile >= signature.domain.tiles() {
         return Ok(None);
     }
-    let points = points_of(alloc, &signature.domain, *tile)?;
+    let points = points_of(alloc, &signature.domain, at.tile)?;
     if !are_below(ranks, points) {
         return Ok(None);
     }
-    Ok(Some(TileAt {
-        coverage,
-        field: *field,
-        tile: *tile,
-    }))
+    Ok(Some(at))
 }
 
 /// The cells of a tile at ranks, in a buffer that held five others, as `1 lai 0 0 5,0,5`: of the coverage as it is held
 /// for a job, and for 0 as it is where nothing is held.
 pub fn pick(alloc: Global, answer: &mut Answer, store: &mut Store, words: &str) -> Result<()> {
-    let (asked, ranks) = read_asked(alloc, words)?;
+    let (job, target, tile, ranks) = read_asked(alloc, words)?;
     let ranks = read_ranks(alloc, ranks)?;
-    let at = place_of(alloc, store, &asked, &ranks)?.context("no such cells")?;
+    let target = &target;
+    let at = place_of(alloc, store, Asked { job, target, tile }, &ranks)?;
+    let at = at.context("no such cells")?;
     let mut cells = vec![in alloc; 9i64; 5]?;
-    let outcome = store.pick_at(asked.job, at, &ranks, &mut cells);
+    let outcome = store.pick_at(job, at, &ranks, &mut cells);
     say_cells(alloc, answer, outcome, &cells);
     Ok(())
 }

@@ -190,7 +190,7 @@ impl Site {
         words: &str,
     ) -> Result<()> {
         match verb {
-            "begin" => self.begin(alloc, answer, number(words)),
+            "begin" => self.begin(alloc, answer, number(words)?),
             "end" => stores::end(alloc, answer, &mut self.volume, &mut self.store),
             _ => self.with_store(alloc, answer, verb, words),
         }

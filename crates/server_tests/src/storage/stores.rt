@@ -5,8 +5,8 @@ ghost use Rattle.arr_core.specs.Domains.{IsInside};
 ghost use Rattle.arr_core.specs.Stores.{found};
 ghost use Rattle.arr_core.specs.Tiles.{tile_boxes};
 ghost use Rattle.raster_store.specs.Calls.{HasField};
-ghost use Rattle.raster_store.specs.Fetches.{HasTile};
-ghost use Rattle.raster_store.specs.Snapshots.{OnHeldFor, held_for, held_view};
+ghost use Rattle.raster_store.specs.Fetches.{HasTile, IsPlaceOf};
+ghost use Rattle.raster_store.specs.Snapshots.{OnHeldFor, held_for};
 
 use crate::storage::blocks::Volume;
 use crate::storage::disks::TestDisk;
@@ -20,15 +20,23 @@ use arr_core::{Domain, Name, Signature};
 use page_pool::PagePool;
 use raster_store::{Fault, RasterStore, TileAt, WriteFault};
 use std::alloc::{AllocError, Global};
-use test_rows::{Answer, cell, cut, domain, number, point};
+use test_rows::{Answer, cell, cut, domain, index, number, point};
 
 pub type Store = RasterStore<PagePool<TestDisk>>;
 
 /// A field, by its place, of the coverage with a name.
 #[derive(Drop)]
-struct Target {
-    name: Name,
-    field: usize,
+pub struct Target {
+    pub name: Name,
+    pub field: usize,
+}
+
+/// A tile, by its number, of a field that a number reads: what is held for that job, or for 0 what is there.
+#[derive(Clone, Copy)]
+pub struct Asked<'a> {
+    pub job: u64,
+    pub target: &'a Target,
+    pub tile: u64,
 }
 
 /// What is asked of a field: a verb, and its words.
@@ -124,40 +132,39 @@ fn fill(
     Ok(())
 }
 
-/// Whether there is a tile, by its number, of a field of the coverage with a name that a number reads.
-pub fn is_readable(store: &Store, job: u64, name: &Name, field: usize, tile: u64) -> bool
-    ensures field { IsTrue result
-        → IsSomeAnd (held_view job store.now) (λ v. HasField name.now field v.coverages) }
-    ensures tile { IsTrue result
-        → IsSomeAnd (held_view job store.now)
-        (λ v. IsSomeAnd (found name.now v.coverages) (λ c. tile < length (tile_boxes c.domain))) }
-    ensures held { IsTrue result → held_for job store.now.snapshots ≡ None → job ≡ 0 }
+/// Whether a tile is there.
+fn is_readable(store: &Store, asked: Asked<'_>) -> bool
+    ensures field { IsTrue result → OnHeldFor asked.entry.job store.now
+        (λ v. HasField asked.entry.target.now.name asked.entry.target.now.field v.coverages) }
+    ensures tile { IsTrue result → OnHeldFor asked.entry.job store.now
+        (λ v. IsSomeAnd (found asked.entry.target.now.name v.coverages)
+        (λ c. asked.entry.tile < length (tile_boxes c.domain))) }
+    ensures held { IsTrue result → held_for asked.entry.job store.now.snapshots ≡ None → asked.entry.job ≡ 0 }
 {
+    let Asked { job, target, tile } = asked;
     if job != 0 && !store.holds(job) {
         return false;
     }
-    match store.signature_at(job, name) {
-        Some(signature) => field < signature.fields.len() && tile < signature.domain.tiles(),
+    match store.signature_at(job, &target.name) {
+        Some(signature) => {
+            target.field < signature.fields.len() && tile < signature.domain.tiles()
+        }
         None => false,
     }
 }
 
-/// A tile, by its number, of a field that a number reads: what is held for that job, or for 0 what is there.
-#[derive(Clone, Copy)]
-struct TileCall<'a> {
-    job: u64,
-    target: &'a Target,
-    tile: u64,
-}
-
-/// Where the tile is, if it is there.
-fn tile_at(store: &Store, call: TileCall<'_>) -> Option<TileAt>
-    ensures { IfSome result (λ at. OnHeldFor call.entry.job store.now (λ v. HasTile at v.coverages)) }
+/// Where a tile is, if it is there.
+pub fn tile_at(store: &Store, asked: Asked<'_>) -> Option<TileAt>
+    ensures tile { IfSome result (λ at. OnHeldFor asked.entry.job store.now (λ v. HasTile at v.coverages)) }
+    ensures place { IfSome result (λ at.
+        OnHeldFor asked.entry.job store.now (λ v. IsPlaceOf asked.entry.target.now.name v.coverages at.coverage)) }
+    ensures held { IfSome result
+        (λ _. held_for asked.entry.job store.now.snapshots ≡ None → asked.entry.job ≡ 0) }
 {
-    let TileCall { job, target, tile } = call;
-    if !is_readable(store, job, &target.name, target.field, tile) {
+    if !is_readable(store, asked) {
         return None;
     }
+    let Asked { job, target, tile } = asked;
     match store.place_at(job, &target.name) {
         Some(coverage) => Some(TileAt {
             coverage,
@@ -173,12 +180,12 @@ fn read_into(
     alloc: Global,
     answer: &mut Answer,
     store: &mut Store,
-    call: TileCall<'_>,
+    asked: Asked<'_>,
     cells: &mut Vec<i64>,
 ) {
-    match tile_at(store, call) {
+    match tile_at(store, asked) {
         Some(at) => {
-            let outcome = store.fetch_at(call.job, at, cells);
+            let outcome = store.fetch_at(asked.job, at, cells);
             say_cells(alloc, answer, outcome, cells);
         }
         None => answer.wrong("no tile"),
@@ -186,14 +193,14 @@ fn read_into(
 }
 
 /// The numbers of a tile.
-fn read_tile(alloc: Global, answer: &mut Answer, store: &mut Store, call: TileCall<'_>) {
+fn read_tile(alloc: Global, answer: &mut Answer, store: &mut Store, asked: Asked<'_>) {
     let mut cells = Vec::new(alloc);
-    read_into(alloc, answer, store, call, &mut cells);
+    read_into(alloc, answer, store, asked, &mut cells);
 }
 
 /// A tile, by its number, of a field as it is.
-fn present<'a>(target: &'a Target, tile: u64) -> TileCall<'a> {
-    TileCall {
+fn present<'a>(target: &'a Target, tile: u64) -> Asked<'a> {
+    Asked {
         job: 0,
         target,
         tile,
@@ -201,13 +208,20 @@ fn present<'a>(target: &'a Target, tile: u64) -> TileCall<'a> {
 }
 
 /// The numbers of two tiles, which are read into one buffer one after the other, as `1 0`.
-fn read_tiles(alloc: Global, answer: &mut Answer, store: &mut Store, target: &Target, words: &str) {
+fn read_tiles(
+    alloc: Global,
+    answer: &mut Answer,
+    store: &mut Store,
+    target: &Target,
+    words: &str,
+) -> Result<()> {
     let (first, second) = cut(words);
-    let (first, second) = (number(first), number(second));
+    let (first, second) = (number(first)?, number(second)?);
     let mut cells = Vec::new(alloc);
     read_into(alloc, answer, store, present(target, first), &mut cells);
     answer.say(" | ");
     read_into(alloc, answer, store, present(target, second), &mut cells);
+    Ok(())
 }
 
 /// The domain of the coverage with a name.
@@ -241,14 +255,14 @@ fn copy_tile(
 fn read_part(
     alloc: Global,
     store: &mut Store,
-    call: TileCall<'_>,
+    asked: Asked<'_>,
     part: &Domain,
     area: &Domain,
     cells: &mut [i64],
 ) -> Result<Result<(), Fault>> {
-    let at = tile_at(store, call).context("no tile")?;
+    let at = tile_at(store, asked).context("no tile")?;
     let mut numbers = Vec::new(alloc);
-    if let Err(fault) = store.fetch_at(call.job, at, &mut numbers) {
+    if let Err(fault) = store.fetch_at(asked.job, at, &mut numbers) {
         return Ok(Err(fault));
     }
     copy_tile(alloc, part, &numbers, area, cells)?;
@@ -325,10 +339,10 @@ fn read_point(
         bail!("no point");
     }
     let (tile, place) = place_of(alloc, &domain, &point)?;
-    let call = present(target, tile);
-    let at = tile_at(store, call).context("no tile")?;
+    let asked = present(target, tile);
+    let at = tile_at(store, asked).context("no tile")?;
     let mut cells = Vec::new(alloc);
-    match store.fetch_at(call.job, at, &mut cells) {
+    match store.fetch_at(asked.job, at, &mut cells) {
         Ok(()) => answer.integer(*cells.get(place).context("too few cells")?),
         Err(fault) => answer.refusal(refused(fault)),
     }
@@ -361,8 +375,8 @@ fn on_field(
         "box" => return read_box(alloc, answer, store, target, words),
         "at" => return read_point(alloc, answer, store, target, words),
         "index" => return index_bytes(alloc, answer, store, target),
-        "tile" => read_tile(alloc, answer, store, present(target, number(words))),
-        "tiles" => read_tiles(alloc, answer, store, target, words),
+        "tiles" => return read_tiles(alloc, answer, store, target, words),
+        "tile" => read_tile(alloc, answer, store, present(target, number(words)?)),
         _ => answer.wrong("no such call"),
     }
     Ok(())
@@ -380,7 +394,7 @@ fn of_field(
     let (name, rest) = cut(words);
     let (field, rest) = cut(rest);
     let name = Name::new(alloc, name)?;
-    let field = number(field) as usize;
+    let field = index(field)?;
     let target = Target { name, field };
     if !has_field(store, &target) {
         bail!("no field");
@@ -444,7 +458,7 @@ fn has_name(store: &Store, name: &Name) -> bool
 /// Holds a coverage for a job, as `1 lai`.
 fn hold(alloc: Global, answer: &mut Answer, store: &mut Store, words: &str) -> Result<()> {
     let (job, name) = cut(words);
-    let job = number(job);
+    let job = number(job)?;
     let name = Name::new(alloc, name)?;
     if store.holds(job) || !has_name(store, &name) {
         bail!("nothing to hold");
@@ -462,21 +476,22 @@ fn release(answer: &mut Answer, store: &mut Store, job: u64) {
     answer.say("ok");
 }
 
-/// The numbers of a tile of a field, as `1 lai 0 0`: of the coverage as it is held for a job.
-fn read_held(alloc: Global, answer: &mut Answer, store: &mut Store, words: &str) -> Result<()> {
+/// Reads a job, a field and a tile, as `1 lai 0 0`, and what stands behind.
+pub fn read_asked(alloc: Global, words: &str) -> Result<(u64, Target, u64, &str)> {
     let (job, rest) = cut(words);
     let (name, rest) = cut(rest);
-    let (field, tile) = cut(rest);
-    let target = Target {
-        name: Name::new(alloc, name)?,
-        field: number(field) as usize,
-    };
-    let call = TileCall {
-        job: number(job),
-        target: &target,
-        tile: number(tile),
-    };
-    read_tile(alloc, answer, store, call);
+    let (field, rest) = cut(rest);
+    let (tile, rest) = cut(rest);
+    let name = Name::new(alloc, name)?;
+    let field = index(field)?;
+    Ok((number(job)?, Target { name, field }, number(tile)?, rest))
+}
+
+/// The numbers of a tile of a field, as `1 lai 0 0`: of the coverage as it is held for a job.
+fn read_held(alloc: Global, answer: &mut Answer, store: &mut Store, words: &str) -> Result<()> {
+    let (job, target, tile, _) = read_asked(alloc, words)?;
+    let target = &target;
+    read_tile(alloc, answer, store, Asked { job, target, tile });
     Ok(())
 }
 
@@ -499,7 +514,7 @@ pub fn call(
         "runs" => return list(alloc, answer, store, words),
         "fetched" => answer.count(store.fetched()),
         "count" => answer.count(store.len() as u64),
-        "release" => release(answer, store, number(words)),
+        "release" => release(answer, store, number(words)?),
         _ => return of_field(alloc, answer, store, bytes, verb, words),
     }
     Ok(())
