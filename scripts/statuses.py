@@ -48,6 +48,10 @@ NOTHING = [
     ["-", "listen", "1", "-1"],
     ["-", "listen", "1", "1x"],
     ["-", "listen", "1", "99999999999"],
+    # a word that is not UTF-8
+    [b"\xff", "run"],
+    ["-", b"run\xff"],
+    ["-", "listen", "1", b"\xff"],
 ]
 
 

@@ -1,2 +1,4 @@
 pub mod ResumingLemmas
+pub mod ServingLemmas
+pub mod StatusLemmas
 pub mod WordLemmas

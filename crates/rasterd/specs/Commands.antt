@@ -1,5 +1,6 @@
 -- What the words after the program's name ask.
-use Rattle.std.specs.Prelude.{◌≡◌, ℕ, ◌≤◌, List, [], ◌∷◌, codes}
+use Rattle.std.specs.Prelude.{◌≡◌, ℕ, ◌≤◌, List, [], ◌∷◌, String, codes, map, string_bytes}
+use Rattle.std.specs.declared.alloc.Global.{Global}
 use Rattle.std.specs.Str.Parse.{IsNumeral, digits_value}
 use Rattle.rasterd.specs.declared.commands.Command.{Command}
 use Rattle.rasterd.specs.declared.commands.Command.TheVariants.{Run, Listen}
@@ -25,3 +26,16 @@ Asks words (Run file) = words ≡ file.now ∷ codes "run" ∷ []
 Asks words (Listen file port count) =
     (port_text : List ℕ) × (count_text : List ℕ) × (words ≡ file.now ∷ codes "listen" ∷ port_text ∷ count_text ∷ [])
     × IsNumber max_port port_text port × IsNumber max_connections count_text count
+
+-- no command
+abbrev pub AsksNothing : List (List ℕ) → Type 0
+AsksNothing words = (c : Command) → Asks words c → ⊥
+
+-- a session over the store in memory
+abbrev pub IsRunInMemory : Command → Type 0
+IsRunInMemory (Run file) = file.now ≡ codes "-"
+IsRunInMemory (Listen file port count) = ⊥
+
+-- the words `- run`
+abbrev pub AsksMemory : List (String Global) → Type 0
+AsksMemory words = (c : Command) × Asks (map string_bytes words) c × IsRunInMemory c

@@ -11,6 +11,14 @@ abbrev pub fault_line : List ℕ → Refusal → List ℕ
 fault_line what refusal = what ++ codes ": " ++ decimal (number_of refusal) ++ codes " " ++ name_of refusal ++ codes
     "\n"
 
+-- what the words after the program's name may be, where they ask nothing
+abbrev pub usage : List ℕ
+usage = codes "usage: rasterd FILE run or rasterd FILE listen PORT COUNT\n"
+
+-- that no socket was bound
+abbrev pub no_socket : List ℕ
+no_socket = codes "no socket\n"
+
 -- the line went out and no byte of it waits, or a first part of it went out up to a fault
 abbrev pub Says : SinkView → SinkView → List ℕ → Type 0
 Says old new line = (whole : Bool) × Sent old new whole line × (whole ≡ true → IsFlushed new.waiting)

@@ -1,10 +1,11 @@
 -- How the program's session ends.
-use Rattle.std.specs.Prelude.{◌≡◌, ℕ, List, Option, Some, None, Result, Ok, Err, codes, ⊤}
+use Rattle.std.specs.Prelude.{◌≡◌, ℕ, ◌≤◌, length, List, Option, Some, None, Result, Ok, Err, codes, ⊤}
 use Rattle.disk_face.specs.declared.Disk.{Ghosts}
 use Rattle.stream_face.specs.Views.{SinkView}
 use Rattle.block_file.specs.Faults.{open_refusal, close_refusal}
 use Rattle.coverage_server.specs.Serves.{Ends}
-use Rattle.coverage_server.specs.Sessions.{IsSession}
+use Rattle.coverage_server.specs.Sessions.{AreServed, IsSession}
+use Rattle.coverage_server.specs.Views.{SessionView}
 use Rattle.coverage_server.specs.declared.session.SessionFault.{SessionFault}
 use Rattle.coverage_server.specs.declared.session.SessionFault.TheVariants.{NotOpened, NotClosed}
 use Rattle.rasterd.specs.Lines.{Says, fault_line}
@@ -36,3 +37,18 @@ pub record EndsAs {D E : Type 0} (g : Ghosts D) (disk : D) (ends : List Ends) (v
   pub status : outcome.0 ≡ status_of end
   pub back : outcome.1 ≡ disk_back end
   pub line : SaysWhy (view errors) (view errors') end
+
+-- serving at most so many connections, one after the other, refines the machine's
+abbrev pub ServesUpTo : ℕ → SessionView → SessionView → Type 0
+ServesUpTo most old new = (ends : List Ends) × (length ends ≤ most) × AreServed ends old new
+
+-- a session on a disk, over at most so many connections, ended so
+abbrev pub IsSessionUpTo : {D : Type 0} → ℕ → Ghosts D → D → Result D (SessionFault D) → Type 0
+IsSessionUpTo most g disk result = (ends : List Ends) × (length ends ≤ most) × IsSession g disk ends result
+
+-- so it ended with this status, and with a line on standard error that says why where the store was not opened or not
+-- closed
+abbrev pub EndsUpTo : {D E : Type 0} → ℕ → Ghosts D → D → (E → SinkView) → E → E → ℕ → Type 0
+EndsUpTo {D = D} most g disk view errors errors' status =
+    (ends : List Ends) × (length ends ≤ most)
+    × (back : Option D) × EndsAs g disk ends view errors errors' (status, back)

@@ -1,9 +1,17 @@
 //! A coverage server over standard input and output, or over sockets of this machine.
 #![tactic(auto)]
 
+ghost use Rattle.std.specs.Prelude.{◌≡◌, codes, map, string_bytes};
+ghost use Rattle.std.specs.IoError.{error_kind};
+ghost use Rattle.coverage_server.specs.Sessions.{ends_all};
+ghost use Rattle.rasterd.specs.Commands.{AsksMemory};
+ghost use Rattle.rasterd.specs.Places.{EndsInMemory};
+ghost use Rattle.rasterd.specs.Statuses.{ReportsStore, ReportsUnread, ReportsUsage, ReportsWords};
+
 mod commands;
 mod lines;
 mod listening;
+mod place;
 mod resumed;
 mod session;
 mod streams;
@@ -11,14 +19,15 @@ mod words;
 
 use arr_core::Refusal;
 use commands::Command;
-use disk_face::{FileDisk, MemoryDisk};
 use lines::say;
 use listening::listen;
+use place::{Place, open_place};
 use resumed::Resumed;
 use session::{not_opened, session_status};
-use std::env;
+use std::io::ErrorKind;
 use std::process::ExitCode;
-use stream_face::{Sink, Source};
+use std::{env, io};
+use stream_face::{Sink, Source, Watched};
 use streams::null_streams;
 use words::command;
 
@@ -28,22 +37,43 @@ const USAGE: &str = "usage: rasterd FILE run or rasterd FILE listen PORT COUNT\n
 /// The status where the words ask nothing.
 const NO_COMMAND: u8 = 2;
 
+/// Says on a line what words may ask, where they ask nothing. Gives the status of that.
+fn no_command<E: Sink>(errors: &mut E) -> u8
+    ensures { ReportsUsage result (E.view errors.old) (E.view errors.new) }
+{
+    say(errors, USAGE);
+    NO_COMMAND
+}
+
+/// Says on a line why the words could not be read: the store is not opened where memory is wanting, and a word that is
+/// not UTF-8 asks nothing. Gives the status of that.
+fn no_words<E: Sink>(errors: &mut E, error: &io::Error) -> u8
+    ensures { ReportsUnread (error_kind error.now) result (E.view errors.old) (E.view errors.new) }
+{
+    if error.kind() == ErrorKind::OutOfMemory {
+        not_opened(errors, Refusal::NoMemory)
+    } else {
+        no_command(errors)
+    }
+}
+
 /// Serves one connection, its reader and its writer, over the store in a file, which is made where there is none. Gives
 /// the status.
 fn serve_file<R: Source, W: Sink, E: Sink>(
     rt: &HostRuntime,
     file: &str,
-    connection: &mut [(R, W); 1],
+    streams: &mut [(R, W); 1],
     errors: &mut E,
-) -> u8 {
+) -> u8
+    ensures reports { ReportsStore result (E.view errors.old) (E.view errors.new) }
+    ensures memory { file.now ≡ codes "-" → EndsInMemory (ends_all R.view W.view streams.old streams.new) result }
+    ensures untouched { result ≡ 3 → streams.new ≡ streams.old }
+{
     let alloc = rt.alloc();
-    if file == "-" {
-        let disk = MemoryDisk::new(Vec::new(alloc));
-        return session_status(alloc, disk, connection, errors).0;
-    }
-    match FileDisk::open(rt, file) {
-        Ok(disk) => session_status(alloc, disk, connection, errors).0,
-        Err(_) => not_opened(errors, Refusal::DiskFault),
+    match open_place(rt, file, errors) {
+        Ok(Place::Memory(disk)) => session_status(alloc, disk, streams, errors).0,
+        Ok(Place::File(disk)) => session_status(alloc, disk, streams, errors).0,
+        Err(status) => status,
     }
 }
 
@@ -52,39 +82,37 @@ fn serve_file<R: Source, W: Sink, E: Sink>(
 fn run<R: Source, W: Sink, E: Sink>(
     rt: &HostRuntime,
     words: &[String],
-    connection: &mut [(R, W); 1],
+    streams: &mut [(R, W); 1],
     errors: &mut E,
-) -> u8 {
+) -> u8
+    ensures reports { ReportsWords (map string_bytes words.now) result (E.view errors.old) (E.view errors.new) }
+    ensures memory { AsksMemory words.now → EndsInMemory (ends_all R.view W.view streams.old streams.new) result }
+    ensures untouched { result ≡ 3 → streams.new ≡ streams.old }
+{
     match command(words) {
-        Some(Command::Run(file)) => serve_file(rt, file, connection, errors),
+        Some(Command::Run(file)) => serve_file(rt, file, streams, errors),
         Some(Command::Listen(file, port, count)) => listen(rt, file, port, count, errors),
-        None => {
-            say(errors, USAGE);
-            NO_COMMAND
-        }
+        None => no_command(errors),
     }
 }
 
-/// The words after the program's name; none where memory is wanting.
-fn words_of(rt: &HostRuntime) -> Option<Vec<String>> {
+/// The words after the program's name. An error where memory is wanting, or where one of them is not UTF-8.
+fn words_of(rt: &HostRuntime) -> io::Result<Vec<String>> {
     let mut words = Vec::new(rt.alloc());
-    let Ok(args) = env::args(rt) else {
-        return None;
-    };
-    for word in args.skip(1) {
-        if words.push(word).is_err() {
-            return None;
-        }
+    for word in env::args(rt)?.skip(1) {
+        words.push(word)?;
     }
-    Some(words)
+    Ok(words)
 }
 
 fn main(rt: HostRuntime) -> ExitCode {
     let _null_streams = null_streams(&rt);
-    let mut errors = Resumed::new(rt.stderr());
-    let Some(words) = words_of(&rt) else {
-        return ExitCode::from(not_opened(&mut errors, Refusal::NoMemory));
+    let mut errors = Resumed::new(Watched::new(rt.stderr()));
+    let words = match words_of(&rt) {
+        Ok(words) => words,
+        Err(error) => return ExitCode::from(no_words(&mut errors, &error)),
     };
-    let mut connection = [(Resumed::new(rt.stdin().lock()), Resumed::new(rt.stdout()))];
-    ExitCode::from(run(&rt, &words, &mut connection, &mut errors))
+    let reader = Resumed::new(Watched::new(rt.stdin().lock()));
+    let writer = Resumed::new(Watched::new(rt.stdout()));
+    ExitCode::from(run(&rt, &words, &mut [(reader, writer)], &mut errors))
 }

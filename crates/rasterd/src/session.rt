@@ -1,5 +1,6 @@
 //! One session of the program, with its status.
-ghost use Rattle.std.specs.Prelude.{◌≡◌, IfOk, IsSomeAnd, codes};
+ghost use Rattle.std.specs.Prelude.{◌≡◌, ◌≢◌, Err, IfOk, IsSomeAnd, IsTrue, codes};
+ghost use Rattle.coverage_server.specs.Disk.{ListsNone};
 ghost use Rattle.coverage_server.specs.Sessions.{IsSession, StaysHonest, ends_all};
 ghost use Rattle.rasterd.specs.Lines.{Says, fault_line};
 ghost use Rattle.rasterd.specs.Sessions.{EndsAs, SaysWhy, status_of};
@@ -38,9 +39,34 @@ pub fn not_closed<E: Sink>(errors: &mut E, refusal: Refusal) -> u8
     NOT_CLOSED
 }
 
+/// Says on a line why a session did not end by a close. Gives the status of that.
+fn tell_fault<D: Disk, E: Sink>(errors: &mut E, fault: &SessionFault<D>) -> u8
+    ensures status { result ≡ status_of (Err fault.now) }
+    ensures line { SaysWhy (E.view errors.old) (E.view errors.new) (Err fault.now) }
+    ensures told { result ≢ 0 }
+{
+    match fault {
+        SessionFault::NotOpened(_, fault) => not_opened(errors, fault.refusal()),
+        SessionFault::NotClosed(_, fault) => not_closed(errors, fault.refusal()),
+    }
+}
+
+/// Says on a line why a session did not end by a close, and nothing where it did. Gives the status of that: `CLOSED`,
+/// `NOT_OPENED` or `NOT_CLOSED`.
+pub fn tell_end<D: Disk, E: Sink>(errors: &mut E, end: &Result<D, SessionFault<D>>) -> u8
+    ensures status { result ≡ status_of end.now }
+    ensures line { SaysWhy (E.view errors.old) (E.view errors.new) end.now }
+    ensures quiet { result ≡ 0 → errors.new ≡ errors.old }
+{
+    match end {
+        Ok(_) => CLOSED,
+        Err(fault) => tell_fault(errors, fault),
+    }
+}
+
 /// Opens the store that a disk holds, serves one connection, its reader and its writer, and closes the store. Gives the
 /// status of the program, and how the session ended: `CLOSED`; or `NOT_OPENED`, where the reader and the writer are as
-/// they were, or `NOT_CLOSED`, with a line of `errors` that says why.
+/// they were, or `NOT_CLOSED`, with a line of `errors` that says why. A disk that lists no store is not opened.
 pub fn session_end<D: Disk + Drop, R: Source, W: Sink, E: Sink>(
     alloc: Global,
     disk: D,
@@ -51,20 +77,13 @@ pub fn session_end<D: Disk + Drop, R: Source, W: Sink, E: Sink>(
     ensures status { result.0 ≡ status_of result.1 }
     ensures line { SaysWhy (E.view errors.old) (E.view errors.new) result.1 }
     ensures still { IfOk result.1 (StaysHonest D.Disk disk) }
+    ensures no_store { IsTrue (D.honest disk) → ListsNone (D.content disk) → result.0 ≡ 3 }
     ensures untouched { result.0 ≡ 3 → streams.new ≡ streams.old }
     ensures quiet { result.0 ≡ 0 → errors.new ≡ errors.old }
 {
-    match serve_session(alloc, disk, streams) {
-        Ok(disk) => (CLOSED, Ok(disk)),
-        Err(SessionFault::NotOpened(disk, fault)) => {
-            let status = not_opened(errors, fault.refusal());
-            (status, Err(SessionFault::NotOpened(disk, fault)))
-        }
-        Err(SessionFault::NotClosed(server, fault)) => {
-            let status = not_closed(errors, fault.refusal());
-            (status, Err(SessionFault::NotClosed(server, fault)))
-        }
-    }
+    let end = serve_session(alloc, disk, streams);
+    let status = tell_end(errors, &end);
+    (status, end)
 }
 
 /// The same, and gives the disk where it came back: a server that was not closed has it, and is let go.
@@ -76,6 +95,7 @@ pub fn session_status<D: Disk + Drop, R: Source, W: Sink, E: Sink>(
 ) -> (u8, Option<D>)
     ensures end { EndsAs D.Disk disk (ends_all R.view W.view streams.old streams.new) E.view errors.old errors.new result }
     ensures still { result.0 ≡ 0 → IsSomeAnd result.1 (StaysHonest D.Disk disk) }
+    ensures no_store { IsTrue (D.honest disk) → ListsNone (D.content disk) → result.0 ≡ 3 }
     ensures untouched { result.0 ≡ 3 → streams.new ≡ streams.old }
     ensures quiet { result.0 ≡ 0 → errors.new ≡ errors.old }
 {
